@@ -1,0 +1,220 @@
+-- What a setting that is not refused, and a call that is not refused, can count on.
+use mathlib.Core.Path.{_≡_, refl, sym, ap, _∙_, subst}
+use mathlib.Core.List.{List}
+use mathlib.Core.Bool.{Bool, true, false, not, _&&_, _||_}
+use Prim.Native.Nat.{ℕ, zero, suc, _+_, _-_, _*_, _/_, _%_, _^_, _≤_, _<_}
+use native.Mathlib.Omega.{arith}
+use native.Mathlib.Nat.{lt-div-mul-add}
+use lib.Dec.{T, leb, ltb, eqb, leb→le, ltb→lt, nltb→le, nleb→lt, eqb→eq}
+use lib.ListN.{length, getD}
+use Rattle.rules.specs.declared.Setting.{Setting}
+use Rattle.rules.specs.Cells.{ceilDiv, between}
+use Rattle.rules.specs.Answers.{Refusal, none, outOfRange, shortWindow, badDelay, longHistory, aboveLimit, shortBuffer, badMemory, outsideSetting, badTick, noneInFlight, refusalNumber, refuse, orElse}
+use Rattle.rules.specs.Setting.{Limits, epochLength, historyLength, rowBound, fieldsInRange, seedsInRange, settingRefusal}
+use Rattle.rules.specs.State.{State, countersUsed, threadsUsed, threadCell, tooShort}
+use Rattle.rules.specs.History.{memoryOk}
+use Rattle.rules.specs.Quota.{Policy}
+use Rattle.rules.specs.Calls.{setupRefusal, callRefusal, doneRefusal}
+use Rattle.rules.proofs.Tests.{and-l, and-r, not-or, not-not}
+
+-- ---- the order of refusals
+
+-- one that is none has number 0, and no other has
+pub number-none : (r : Refusal) → refusalNumber r ≡ 0 → r ≡ none
+number-none none e = refl
+number-none outOfRange e = absurd (omega arith)
+number-none shortWindow e = absurd (omega arith)
+number-none badDelay e = absurd (omega arith)
+number-none longHistory e = absurd (omega arith)
+number-none aboveLimit e = absurd (omega arith)
+number-none shortBuffer e = absurd (omega arith)
+number-none badMemory e = absurd (omega arith)
+number-none outsideSetting e = absurd (omega arith)
+number-none badTick e = absurd (omega arith)
+number-none noneInFlight e = absurd (omega arith)
+
+number-orElse : (a b : Refusal) → refusalNumber (orElse a b) ≡ 0 → (refusalNumber a ≡ 0) × (refusalNumber b ≡ 0)
+number-orElse none b e = (refl, e)
+number-orElse outOfRange b e = absurd (omega arith)
+number-orElse shortWindow b e = absurd (omega arith)
+number-orElse badDelay b e = absurd (omega arith)
+number-orElse longHistory b e = absurd (omega arith)
+number-orElse aboveLimit b e = absurd (omega arith)
+number-orElse shortBuffer b e = absurd (omega arith)
+number-orElse badMemory b e = absurd (omega arith)
+number-orElse outsideSetting b e = absurd (omega arith)
+number-orElse badTick b e = absurd (omega arith)
+number-orElse noneInFlight b e = absurd (omega arith)
+
+pub orElse-none : (a b : Refusal) → orElse a b ≡ none → (a ≡ none) × (b ≡ none)
+orElse-none a b e =
+    let n = number-orElse a b (ap refusalNumber e) in
+    (number-none a (n .0), number-none b (n .1))
+
+pub refuse-none : (b : Bool) (r rest : Refusal) → 0 < refusalNumber r → refuse b r rest ≡ none → T (not b) × (rest ≡ none)
+refuse-none true r rest h e = absurd (omega (arith, ap refusalNumber e))
+refuse-none false r rest h e = (tt, e)
+
+-- ---- an accepted setting
+
+pub record Accepted (m : Limits) (s : Setting) (seeds : List ℕ) : Type 0 where
+  pub w-low : 2 ≤ s .w
+  pub w-high : s .w ≤ 2 ^ 30
+  pub even : s .w % 2 ≡ 0
+  pub trc-low : 1 ≤ s .trc
+  pub trc-high : s .trc ≤ 65535
+  pub tfaw-low : 1 ≤ s .tfaw
+  pub tfaw-high : s .tfaw ≤ 65535
+  pub n-low : 1 ≤ s .n
+  pub n-high : s .n ≤ m .threshold
+  pub td-low : 1 ≤ s .td
+  pub td-high : s .td ≤ 2 ^ 29
+  pub l-low : 1 ≤ s .l
+  pub l-high : s .l ≤ 2 ^ 24
+  pub q-low : 1 ≤ s .q
+  pub q-high : s .q ≤ 255
+  pub banks-low : 1 ≤ s .banks
+  pub banks-high : s .banks ≤ 16
+  pub threads-low : 1 ≤ s .threads
+  pub threads-high : s .threads ≤ 32
+  pub seeds-ok : T (seedsInRange seeds)
+  pub room : 2 * s .n * s .trc ≤ s .w - 1
+  pub gaps : s .trc ≤ s .td
+  pub delay : s .td ≤ epochLength s
+  pub short : historyLength s ≤ m .history
+  pub bound : rowBound s ≤ s .l
+
+pub accepted : (m : Limits) (s : Setting) (seeds : List ℕ) → settingRefusal m s seeds ≡ none → Accepted m s seeds
+unfolding settingRefusal fieldsInRange
+accepted m s seeds e =
+    let r1 = refuse-none (not (fieldsInRange m s && seedsInRange seeds)) outOfRange _ (omega arith) e in
+    let r2 = refuse-none (ltb (s .w - 1) (2 * s .n * s .trc)) shortWindow _ (omega arith) (r1 .1) in
+    let r3 = refuse-none (ltb (s .td) (s .trc) || ltb (epochLength s) (s .td)) badDelay _ (omega arith) (r2 .1) in
+    let r4 = refuse-none (ltb (m .history) (historyLength s)) longHistory _ (omega arith) (r3 .1) in
+    let r5 = refuse-none (ltb (s .l) (rowBound s)) aboveLimit none (omega arith) (r4 .1) in
+    let n3 = not-or (ltb (s .td) (s .trc)) (ltb (epochLength s) (s .td)) (r3 .0) in
+    let ok : T (fieldsInRange m s && seedsInRange seeds) = not-not (fieldsInRange m s && seedsInRange seeds) (r1 .0) in
+    record {
+      w-low = leb→le 2 (s .w) (search (and-l, and-r) depth 20);
+      w-high = leb→le (s .w) (2 ^ 30) (search (and-l, and-r) depth 20);
+      even = eqb→eq (s .w % 2) 0 (search (and-l, and-r) depth 20);
+      trc-low = leb→le 1 (s .trc) (search (and-l, and-r) depth 20);
+      trc-high = leb→le (s .trc) 65535 (search (and-l, and-r) depth 20);
+      tfaw-low = leb→le 1 (s .tfaw) (search (and-l, and-r) depth 20);
+      tfaw-high = leb→le (s .tfaw) 65535 (search (and-l, and-r) depth 20);
+      n-low = leb→le 1 (s .n) (search (and-l, and-r) depth 20);
+      n-high = leb→le (s .n) (m .threshold) (search (and-l, and-r) depth 20);
+      td-low = leb→le 1 (s .td) (search (and-l, and-r) depth 20);
+      td-high = leb→le (s .td) (2 ^ 29) (search (and-l, and-r) depth 20);
+      l-low = leb→le 1 (s .l) (search (and-l, and-r) depth 20);
+      l-high = leb→le (s .l) (2 ^ 24) (search (and-l, and-r) depth 20);
+      q-low = leb→le 1 (s .q) (search (and-l, and-r) depth 20);
+      q-high = leb→le (s .q) 255 (search (and-l, and-r) depth 20);
+      banks-low = leb→le 1 (s .banks) (search (and-l, and-r) depth 20);
+      banks-high = leb→le (s .banks) 16 (search (and-l, and-r) depth 20);
+      threads-low = leb→le 1 (s .threads) (search (and-l, and-r) depth 20);
+      threads-high = leb→le (s .threads) 32 (search (and-l, and-r) depth 20);
+      seeds-ok = search (and-l, and-r) depth 20;
+      room = nltb→le (s .w - 1) (2 * s .n * s .trc) (r2 .0);
+      gaps = nltb→le (s .td) (s .trc) (n3 .0);
+      delay = nltb→le (epochLength s) (s .td) (n3 .1);
+      short = nltb→le (m .history) (historyLength s) (r4 .0);
+      bound = nltb→le (s .l) (rowBound s) (r5 .0);
+    }
+
+pub ceil-cover : (a b : ℕ) → 1 ≤ b → a ≤ ceilDiv a b * b
+ceil-cover a b h = omega (arith, lt-div-mul-add {a = a + (b - 1)} {b = b} h)
+
+left-pos : (c g : ℕ) → 1 ≤ c * g → 1 ≤ c
+left-pos zero g h = absurd (omega arith)
+left-pos (suc c) g h = omega arith
+
+-- the history has a place
+pub history-pos : {m : Limits} {s : Setting} {seeds : List ℕ} → Accepted m s seeds → 0 < historyLength s
+unfolding historyLength
+history-pos {s = s} ok =
+    omega (arith, left-pos (ceilDiv (s .td) (s .tfaw)) (s .tfaw) (omega (arith, ok .td-low, ceil-cover (s .td) (s .tfaw) (ok .tfaw-low))))
+
+-- an epoch has two ticks or more: W = 2 is refused with 2
+pub epoch-long : {m : Limits} {s : Setting} {seeds : List ℕ} → Accepted m s seeds → 2 ≤ epochLength s
+epoch-long {s = s} ok = go (s .n) (s .trc) (ok .n-low) (ok .trc-low) (ok .room)
+  where
+    go : (n c : ℕ) → 1 ≤ n → 1 ≤ c → 2 * n * c ≤ s .w - 1 → 2 ≤ epochLength s
+    go zero c h k r = absurd (omega arith)
+    go (suc n) zero h k r = absurd (omega arith)
+    go (suc n) (suc c) h k r = omega (arith, ok .even)
+
+-- ---- a call that is not refused
+
+pub record Long (s : Setting) (st : State) : Type 0 where
+  pub counters : countersUsed s ≤ length (st .counters)
+  pub ticks : historyLength s ≤ length (st .ticks)
+  pub rows : historyLength s ≤ length (st .rows)
+  pub threads : threadsUsed s ≤ length (st .threads)
+
+pub long-enough : (s : Setting) (st : State) → T (not (tooShort s st)) → Long s st
+unfolding tooShort
+long-enough s st h =
+    let a = ltb (length (st .counters)) (countersUsed s) in
+    let b = ltb (length (st .ticks)) (historyLength s) in
+    let c = ltb (length (st .rows)) (historyLength s) in
+    let d = ltb (length (st .threads)) (threadsUsed s) in
+    let n3 = not-or (a || b || c) d h in
+    let n2 = not-or (a || b) c (n3 .0) in
+    let n1 = not-or a b (n2 .0) in
+    record {
+      counters = nltb→le (length (st .counters)) (countersUsed s) (n1 .0);
+      ticks = nltb→le (length (st .ticks)) (historyLength s) (n1 .1);
+      rows = nltb→le (length (st .rows)) (historyLength s) (n2 .1);
+      threads = nltb→le (length (st .threads)) (threadsUsed s) (n3 .1);
+    }
+
+-- set-up that is not refused
+pub record SetUp (p : Policy) (s : Setting) (seeds : List ℕ) (st : State) : Type 0 where
+  pub setting : Accepted (p .limits) s seeds
+  pub long : Long s st
+
+pub set-up : (p : Policy) (s : Setting) (seeds : List ℕ) (st : State) → setupRefusal p s seeds st ≡ none → SetUp p s seeds st
+unfolding setupRefusal
+set-up p s seeds st e =
+    let r = orElse-none (settingRefusal (p .limits) s seeds) _ e in
+    let q = refuse-none (tooShort s st) shortBuffer none (omega arith) (r .1) in
+    record { setting = accepted (p .limits) s seeds (r .0); long = long-enough s st (q .0) }
+
+-- a request, a done or an index reading that is not refused with 1 to 9
+pub record Taken (p : Policy) (s : Setting) (seeds : List ℕ) (st : State) (t bank thread : ℕ) : Type 0 where
+  pub setting : Accepted (p .limits) s seeds
+  pub long : Long s st
+  pub memory : T (memoryOk s st)
+  pub bank-in : bank < s .banks
+  pub thread-in : thread < s .threads
+  pub later : st .head .last ≤ t
+  pub early : t < 2 ^ 62
+
+pub taken : (p : Policy) (s : Setting) (seeds : List ℕ) (st : State) (t bank thread : ℕ) → callRefusal p s seeds st t bank thread ≡ none
+    → Taken p s seeds st t bank thread
+unfolding callRefusal
+taken p s seeds st t bank thread e =
+    let r5 = orElse-none (settingRefusal (p .limits) s seeds) _ e in
+    let r6 = refuse-none (tooShort s st) shortBuffer _ (omega arith) (r5 .1) in
+    let r7 = refuse-none (not (memoryOk s st)) badMemory _ (omega arith) (r6 .1) in
+    let r8 = refuse-none (leb (s .banks) bank || leb (s .threads) thread) outsideSetting _ (omega arith) (r7 .1) in
+    let r9 = refuse-none (ltb t (st .head .last) || leb (2 ^ 62) t) badTick none (omega arith) (r8 .1) in
+    let n8 = not-or (leb (s .banks) bank) (leb (s .threads) thread) (r8 .0) in
+    let n9 = not-or (ltb t (st .head .last)) (leb (2 ^ 62) t) (r9 .0) in
+    record {
+      setting = accepted (p .limits) s seeds (r5 .0);
+      long = long-enough s st (r6 .0);
+      memory = not-not (memoryOk s st) (r7 .0);
+      bank-in = nleb→lt (s .banks) bank (n8 .0);
+      thread-in = nleb→lt (s .threads) thread (n8 .1);
+      later = nltb→le t (st .head .last) (n9 .0);
+      early = nleb→lt (2 ^ 62) t (n9 .1);
+    }
+
+pub done-taken : (p : Policy) (s : Setting) (seeds : List ℕ) (st : State) (t bank thread : ℕ) → doneRefusal p s seeds st t bank thread ≡ none
+    → (callRefusal p s seeds st t bank thread ≡ none) × T (not (eqb (getD (st .threads) (threadCell s bank thread 2) 0) 0))
+unfolding doneRefusal
+done-taken p s seeds st t bank thread e =
+    let r = orElse-none (callRefusal p s seeds st t bank thread) _ e in
+    (r .0, refuse-none (eqb (getD (st .threads) (threadCell s bank thread 2) 0) 0) noneInFlight none (omega arith) (r .1) .0)

@@ -1,0 +1,158 @@
+-- The four calls, their refusals 6 to 10, and a run over a list of calls.
+use mathlib.Core.Path.{_≡_}
+use mathlib.Core.List.{List, [], _∷_, _++_}
+use mathlib.Core.Bool.{Bool, true, false, not, _&&_, _||_, cond}
+use Prim.Native.Nat.{ℕ, _+_, _-_, _^_}
+use lib.Dec.{leb, ltb, eqb}
+use lib.ListN.{getD, set}
+use Rattle.rules.specs.declared.Setting.{Setting}
+use Rattle.rules.specs.declared.Answer.{Answer}
+use Rattle.rules.specs.declared.Answer.the-variants.{Opened, Wait, Quota}
+use Rattle.rules.specs.Cells.{count}
+use Rattle.rules.specs.Answers.{Refusal, none, shortBuffer, badMemory, outsideSetting, badTick, noneInFlight, refusalNumber, refuse, orElse, answerNumber, answerWait}
+use Rattle.rules.specs.Setting.{indexScale, settingRefusal}
+use Rattle.rules.specs.State.{State, threadCell, tooShort, fresh}
+use Rattle.rules.specs.Clock.{activeFilter, turned}
+use Rattle.rules.specs.Hash.{places}
+use Rattle.rules.specs.History.{memoryOk}
+use Rattle.rules.specs.Quota.{Policy, indexCounter}
+use Rattle.rules.specs.Decision.{decide, activated}
+
+-- "Four calls: set up, request a row, report a request done, read a thread's index." Set-up stands before the list of the others.
+pub data Call : Type 0 where
+  request : (tick bank thread row : ℕ) → Call
+  done : (tick bank thread : ℕ) → Call
+  index : (tick bank thread : ℕ) → Call
+
+-- what a call gives back
+pub data Reply : Type 0 where
+  refused : Refusal → Reply
+  answered : Answer → Reply
+  finished : Reply
+  shown : (c scale quota : ℕ) → Reply
+
+-- "It returns its number only": 0 where the call is answered
+abbrev pub returnCode : Reply → ℕ
+returnCode (refused r) = refusalNumber r
+returnCode (answered a) = 0
+returnCode finished = 0
+returnCode (shown c scale quota) = 0
+
+-- the words that a call writes for the caller; a refused call and a done write none
+abbrev pub outWords : Reply → List ℕ → List ℕ
+outWords (refused r) out = out
+outWords (answered a) out = answerNumber a ∷ answerWait a ∷ []
+outWords finished out = out
+outWords (shown c scale quota) out = c ∷ scale ∷ quota ∷ []
+
+pub record Outcome : Type 0 where
+  pub reply : Reply
+  pub state : State
+
+-- "Set-up has no 7 to 10."
+unfoldable pub setupRefusal : Policy → Setting → List ℕ → State → Refusal
+setupRefusal p s seeds st = orElse (settingRefusal (p .limits) s seeds) (refuse (tooShort s st) shortBuffer none)
+
+-- refusals 1 to 9 of a call with a tick, a bank and a thread
+unfoldable pub callRefusal : Policy → Setting → List ℕ → State → ℕ → ℕ → ℕ → Refusal
+callRefusal p s seeds st tick bank thread =
+    orElse (settingRefusal (p .limits) s seeds)
+    (refuse (tooShort s st) shortBuffer
+    (refuse (not (memoryOk s st)) badMemory
+    (refuse (leb (s .banks) bank || leb (s .threads) thread) outsideSetting
+    (refuse (ltb tick (st .head .last) || leb (2 ^ 62) tick) badTick none))))
+
+-- and 10, by the bank's own count
+unfoldable pub doneRefusal : Policy → Setting → List ℕ → State → ℕ → ℕ → ℕ → Refusal
+doneRefusal p s seeds st tick bank thread =
+    orElse (callRefusal p s seeds st tick bank thread)
+    (refuse (eqb (getD (st .threads) (threadCell s bank thread 2) 0) 0) noneInFlight none)
+
+-- "It returns its number only and changes nothing."
+unfoldable pub unlessRefused : Refusal → State → Outcome → Outcome
+unlessRefused r st o = cond (eqb (refusalNumber r) 0) o (record { reply = refused r; state = st })
+
+-- the state after a decision: only an activation changes it
+abbrev pub afterAnswer : Answer → State → State → State
+afterAnswer Opened before opened = opened
+afterAnswer (Wait c u) before opened = before
+afterAnswer Quota before opened = before
+
+-- a request on the state turned to its tick; at f gives the row's places in filter f
+unfoldable pub requested : Policy → Setting → (ℕ → List ℕ) → State → ℕ → ℕ → ℕ → Outcome
+requested p s at st bank thread row =
+    let a = decide p s at st bank thread row in
+    record { reply = answered a; state = afterAnswer a st (activated s at st bank thread row) }
+
+-- "a done takes 1 from in flight"
+unfoldable pub reported : Setting → State → ℕ → ℕ → Outcome
+reported s st bank thread =
+    record {
+      reply = finished;
+      state = record {
+        head = st .head;
+        counters = st .counters;
+        ticks = st .ticks;
+        rows = st .rows;
+        threads = set (st .threads) (threadCell s bank thread 2) (getD (st .threads) (threadCell s bank thread 2) 0 - 1);
+      };
+    }
+
+-- "the index answers c, D and the quota"
+unfoldable pub indexShown : Policy → Setting → State → ℕ → ℕ → Outcome
+indexShown p s st bank thread =
+    let c = indexCounter s (st .threads) bank thread (activeFilter s (st .head .last)) in
+    record { reply = shown c (indexScale s) (p .quota s c); state = st }
+
+-- one call. "A call that is not refused moves the last tick to its tick t."
+unfoldable pub step : Policy → Setting → List ℕ → State → Call → Outcome
+step p s seeds st (request t b th r) =
+    unlessRefused (callRefusal p s seeds st t b th) st (requested p s (λ f. places seeds r) (turned s st t) b th r)
+step p s seeds st (done t b th) =
+    unlessRefused (doneRefusal p s seeds st t b th) st (reported s (turned s st t) b th)
+step p s seeds st (index t b th) =
+    unlessRefused (callRefusal p s seeds st t b th) st (indexShown p s (turned s st t) b th)
+
+-- the replies of a list of calls, refused ones included, and the state that it leaves
+abbrev pub replies : Policy → Setting → List ℕ → State → List Call → List Reply
+replies p s seeds st [] = []
+replies p s seeds st (c ∷ cs) = (step p s seeds st c) .reply ∷ replies p s seeds ((step p s seeds st c) .state) cs
+
+abbrev pub after : Policy → Setting → List ℕ → State → List Call → State
+after p s seeds st [] = st
+after p s seeds st (c ∷ cs) = after p s seeds ((step p s seeds st c) .state) cs
+
+-- an activation (document 01: an opening)
+pub record Activation : Type 0 where
+  pub tick : ℕ
+  pub bank : ℕ
+  pub row : ℕ
+
+-- "an opening is a request of the list answered opened, at that request's tick"
+abbrev pub activationOf : Call → Reply → List Activation
+activationOf (request t b th r) (answered Opened) = record { tick = t; bank = b; row = r } ∷ []
+activationOf (request t b th r) (answered (Wait c u)) = []
+activationOf (request t b th r) (answered Quota) = []
+activationOf (request t b th r) (refused n) = []
+activationOf (request t b th r) finished = []
+activationOf (request t b th r) (shown c d q) = []
+activationOf (done t b th) reply = []
+activationOf (index t b th) reply = []
+
+-- the activations of a run, read off its replies, in the order of the list
+abbrev pub activations : List Call → List Reply → List Activation
+activations [] rs = []
+activations (c ∷ cs) [] = []
+activations (c ∷ cs) (r ∷ rs) = activationOf c r ++ activations cs rs
+
+-- an activation of this row of this bank
+abbrev pub ofRow : ℕ → ℕ → Activation → Bool
+ofRow bank row o = eqb (o .bank) bank && eqb (o .row) row
+
+-- "W successive ticks are s to s + W − 1": the tick is one of the x ticks from start on
+abbrev pub inSpan : ℕ → ℕ → ℕ → Bool
+inSpan start x tick = leb start tick && ltb tick (start + x)
+
+-- how often the row was activated in the x ticks from start on
+abbrev pub timesActivated : ℕ → ℕ → ℕ → ℕ → List Activation → ℕ
+timesActivated bank row start x os = count (λ o. ofRow bank row o && inSpan start x (o .tick)) os

@@ -1,0 +1,139 @@
+-- What is proved about the rules: the statements, as types. Their proofs are in proofs/.
+use mathlib.Core.Path.{_≡_}
+use mathlib.Core.Logic.{_≢_}
+use mathlib.Core.List.{List, [], _∷_}
+use mathlib.Core.Bool.{Bool, true, false, not, cond}
+use Prim.Native.Nat.{ℕ, zero, suc, _+_, _-_, _*_, _/_, _%_, _^_, _≤_, _<_, min, max}
+use lib.Dec.{T, leb, ltb, eqb}
+use lib.ListN.{getD}
+use Rattle.rules.specs.declared.Setting.{Setting}
+use Rattle.rules.specs.declared.Answer.the-variants.{Opened}
+use Rattle.rules.specs.Cells.{ceilDiv, All}
+use Rattle.rules.specs.Answers.{Refusal, none, shortBuffer, badMemory}
+use Rattle.rules.specs.Setting.{epochLength, historyLength, settingRefusal}
+use Rattle.rules.specs.State.{State, rowWord, fresh, headWords}
+use Rattle.rules.specs.Clock.{epoch, activeFilter, turned}
+use Rattle.rules.specs.Filter.{estimate}
+use Rattle.rules.specs.History.{find}
+use Rattle.rules.specs.Quota.{Policy, document01}
+use Rattle.rules.specs.Decision.{activeEstimate, rowRule, passesAt, waitTick}
+use Rattle.rules.specs.Calls.{Call, request, done, index, Reply, refused, answered, setupRefusal, callRefusal, step, replies, after, activations, timesActivated}
+
+-- ---- demand 3 and spans of every length
+
+-- The most activations that the row rule lets pass without a delay in x ticks: "m = ceil((X − 1)/E) + 1 and F = N × ceil(m/2)".
+abbrev pub freeMost : Setting → ℕ → ℕ
+freeMost s x = s .n * ceilDiv (ceilDiv (x - 1) (epochLength s) + 1) 2
+
+-- "F + 1 + floor((X − 1 − F × tRC)/tD) times if X − 1 ≥ F × tRC, else at most 1 + floor((X − 1)/tRC)"
+unfoldable pub spanBound : Setting → ℕ → ℕ
+spanBound s x =
+    cond (leb (freeMost s x * s .trc) (x - 1)) (freeMost s x + 1 + (x - 1 - freeMost s x * s .trc) / s .td) (1 + (x - 1) / s .trc)
+
+-- A row's activations in x successive ticks, for every list of calls after a set-up that is not refused, with any seeds and any contents before.
+abbrev pub Spans : Policy → Type 0
+Spans p =
+    (s : Setting) (seeds : List ℕ) (before : State) → setupRefusal p s seeds before ≡ none
+    → (cs : List Call) (bank row start x : ℕ) → 1 ≤ x
+    → timesActivated bank row start x (activations cs (replies p s seeds (fresh s before) cs)) ≤ spanBound s x
+
+-- Demand 3: "no row of any bank is opened more than L times in any W successive ticks".
+abbrev pub Demand3 : Policy → Type 0
+Demand3 p =
+    (s : Setting) (seeds : List ℕ) (before : State) → setupRefusal p s seeds before ≡ none
+    → (cs : List Call) (bank row start : ℕ)
+    → timesActivated bank row start (s .w) (activations cs (replies p s seeds (fresh s before) cs)) ≤ s .l
+
+-- ---- the wait tick
+
+-- u is the least number from v on that passes the test
+pub record Least (p : ℕ → Bool) (v u : ℕ) : Type 0 where
+  pub later : v ≤ u
+  pub passes : T (p u)
+  pub first : (x : ℕ) → v ≤ x → x < u → T (not (p x))
+
+-- For every state on which a call is not refused, reachable or not, and any places of the row: the wait tick is the least passing tick.
+abbrev pub WaitIsLeast : Policy → Type 0
+WaitIsLeast p =
+    (s : Setting) (seeds : List ℕ) (st : State) (t bank thread : ℕ) → callRefusal p s seeds st t bank thread ≡ none
+    → (at : ℕ → List ℕ) (row : ℕ) → Least (passesAt s at (turned s st t) bank row) t (waitTick s at (turned s st t) bank row)
+
+-- The closed form, from numbers: the end of the epoch, the first tick m that bank and rank rules allow, the tick d at which the newest
+-- match is tD old (0 for none), and the row's estimates in the active and in the other filter.
+unfoldable pub closedTick : ℕ → ℕ → ℕ → ℕ → ℕ → ℕ → ℕ
+closedTick n end m d active other =
+    cond (leb d m) m
+    (cond (ltb m end)
+    (cond (ltb active n) m (cond (ltb other n) (min d end) d))
+    (cond (ltb other n) m d))
+
+-- the first tick at which a gap after a stored tick is past, 0 for none
+abbrev pub gapEnd : ℕ → ℕ → ℕ
+gapEnd gap stored = cond (eqb stored 0) 0 (stored - 1 + gap)
+
+unfoldable pub closedWait : Setting → (ℕ → List ℕ) → State → ℕ → ℕ → ℕ
+closedWait s at st bank row =
+    let t = st .head .last in
+    let f = (epoch s t + 1) % 2 in
+    let place = find (historyLength s) (s .td) (st .head .next) (st .ticks) (st .rows) (rowWord bank row) t in
+    closedTick (s .n) ((epoch s t + 1) * epochLength s)
+    (max t (max (gapEnd (s .trc) (getD (st .head .bank) bank 0)) (gapEnd (s .tfaw) (getD (st .head .rank) 3 0))))
+    (cond (eqb place (historyLength s)) 0 (getD (st .ticks) place 0 - 1 + s .td))
+    (activeEstimate s at st bank)
+    (estimate (st .counters) bank f (at f))
+
+abbrev pub WaitIsClosed : Policy → Type 0
+WaitIsClosed p =
+    (s : Setting) (seeds : List ℕ) (st : State) (t bank thread : ℕ) → callRefusal p s seeds st t bank thread ≡ none
+    → (at : ℕ → List ℕ) (row : ℕ) → waitTick s at (turned s st t) bank row ≡ closedWait s at (turned s st t) bank row
+
+-- ---- what is never held or refused
+
+-- "A row whose estimate is below the threshold is never held by the row rule."
+abbrev pub BelowThreshold : Type 0
+BelowThreshold = (s : Setting) (at : ℕ → List ℕ) (st : State) (bank row : ℕ) → activeEstimate s at st bank < s .n → T (rowRule s at st bank row)
+
+-- A first request after set-up, with bank and thread of the setting and a tick below 2^62, is opened.
+abbrev pub FirstOpened : Type 0
+FirstOpened =
+    (s : Setting) (seeds : List ℕ) (before : State) → setupRefusal document01 s seeds before ≡ none
+    → (t bank thread row : ℕ) → t < 2 ^ 62 → bank < s .banks → thread < s .threads
+    → (step document01 s seeds (fresh s before) (request t bank thread row)) .reply ≡ answered Opened
+
+-- No call of a list after set-up is refused with 6 or 7.
+abbrev pub NeverMemory : Policy → Type 0
+NeverMemory p =
+    (s : Setting) (seeds : List ℕ) (before : State) → setupRefusal p s seeds before ≡ none
+    → (cs : List Call) → All (λ r. (r ≢ refused shortBuffer) × (r ≢ refused badMemory)) (replies p s seeds (fresh s before) cs)
+
+-- ---- widths
+
+-- every cell is below 2^w
+abbrev pub Fits : ℕ → List ℕ → Type 0
+Fits w cs = All (λ c. c < 2 ^ w) cs
+
+-- counters of w bits, 64-bit ticks, 32-bit rows and thread counters, a head of 64-bit words
+pub record Stored (w : ℕ) (st : State) : Type 0 where
+  pub head : Fits 64 (headWords (st .head))
+  pub counters : Fits w (st .counters)
+  pub ticks : Fits 64 (st .ticks)
+  pub rows : Fits 32 (st .rows)
+  pub threads : Fits 32 (st .threads)
+
+-- rows are given as 16-bit numbers
+abbrev pub RowFits : Call → Type 0
+RowFits (request t b th r) = r < 65536
+RowFits (done t b th) = Unit {0}
+RowFits (index t b th) = Unit {0}
+
+-- Stored cells stay within their widths, for counters of any width w with N below 2^w: after a call on any contents ..
+abbrev pub StepFits : Type 0
+StepFits =
+    (w : ℕ) (s : Setting) (seeds : List ℕ) (st : State) (c : Call) → s .n < 2 ^ w → Stored w st → RowFits c
+    → Stored w ((step document01 s seeds st c) .state)
+
+-- .. and after any list of calls.
+abbrev pub RunFits : Type 0
+RunFits =
+    (w : ℕ) (s : Setting) (seeds : List ℕ) (before : State) (cs : List Call) → s .n < 2 ^ w → Stored w before → All RowFits cs
+    → Stored w (after document01 s seeds (fresh s before) cs)

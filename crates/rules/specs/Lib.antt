@@ -1,0 +1,13 @@
+pub mod Cells
+pub mod Answers
+pub mod Setting
+pub mod State
+pub mod Clock
+pub mod Hash
+pub mod Filter
+pub mod History
+pub mod Quota
+pub mod Decision
+pub mod Calls
+pub mod Claims
+pub mod Samples
