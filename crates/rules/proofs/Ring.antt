@@ -7,12 +7,12 @@ use Prim.Native.Nat.{ℕ, zero, suc, _+_, _-_, _≤_, _<_}
 use native.Mathlib.Omega.{arith}
 use native.Mathlib.Nat.{le-refl, le-trans}
 use native.Mathlib.Decide.{decLt, ℕ-discrete}
-use lib.Dec.{T, leb, ltb, eqb, leb→le, le→leb, lt→ltb, eqb→eq, eqb-refl, not-T, T-not}
+use lib.Dec.{T, leb, ltb, eqb, leb→le, le→leb, ltb→lt, lt→ltb, eqb→eq, eqb-refl, not-T, T-not}
 use lib.Arith.{le→nltb}
 use lib.ListN.{getD}
 use Rattle.rules.specs.Cells.{every}
 use Rattle.rules.specs.History.{nextPlace, back, neverRises, matches, rowFree, findFrom, find}
-use Rattle.rules.proofs.Tests.{cond-yes, cond-no, every-at, every-all}
+use Rattle.rules.proofs.Tests.{and-i, and-l, and-r, cond-yes, cond-no, every-at, every-all}
 
 -- ---- places
 
@@ -98,6 +98,43 @@ module _ (h p : ℕ) (ticks : List ℕ) (steady : T (neverRises h p ticks)) wher
   falls i (suc k) ih =
       let e : i + suc k ≡ suc (i + k) = omega arith in
       rw e (le-trans (falls-one (i + k) (omega arith)) (falls i k (omega arith)))
+
+-- ---- a match
+
+pub record Match (td word t stored w : ℕ) : Type 0 where
+  pub some : stored ≢ 0
+  pub same : w ≡ word
+  pub past : stored - 1 ≤ t
+  pub young : t < stored - 1 + td
+
+module _ (td word t stored w : ℕ) where
+  abbrev some? : Bool
+  some? = not (eqb stored 0)
+
+  abbrev past? : Bool
+  past? = leb (stored - 1) t
+
+  abbrev young? : Bool
+  young? = ltb t (stored - 1 + td)
+
+  pub match-parts : T (matches td word t stored w) → Match td word t stored w
+  match-parts h =
+      let h3 = and-l (some? && eqb w word && past?) young? h in
+      let h2 = and-l (some? && eqb w word) past? h3 in
+      record {
+        some = λ z. T-not (eqb stored 0) (and-l some? (eqb w word) h2) (subst (λ x. T (eqb x 0)) (sym z) tt);
+        same = eqb→eq w word (and-r some? (eqb w word) h2);
+        past = leb→le (stored - 1) t (and-r (some? && eqb w word) past? h3);
+        young = ltb→lt t (stored - 1 + td) (and-r (some? && eqb w word && past?) young? h);
+      }
+
+  pub match-make : Match td word t stored w → T (matches td word t stored w)
+  match-make m =
+      and-i (some? && eqb w word && past?) young?
+      (and-i (some? && eqb w word) past?
+      (and-i some? (eqb w word) (not-T (eqb stored 0) (λ q. m .some (eqb→eq stored 0 q))) (subst (λ x. T (eqb x word)) (sym (m .same)) (eqb-refl word)))
+      (le→leb (stored - 1) t (m .past)))
+      (lt→ltb t (stored - 1 + td) (m .young))
 
 -- ---- the search
 

@@ -13,7 +13,7 @@ use Rattle.rules.specs.Answers.{Refusal, none, shortBuffer, badMemory}
 use Rattle.rules.specs.Setting.{epochLength, historyLength, settingRefusal}
 use Rattle.rules.specs.State.{State, rowWord, fresh, headWords}
 use Rattle.rules.specs.Clock.{epoch, activeFilter, turned}
-use Rattle.rules.specs.Filter.{estimate}
+use Rattle.rules.specs.Filter.{Within, estimate}
 use Rattle.rules.specs.History.{find}
 use Rattle.rules.specs.Quota.{Policy, document01}
 use Rattle.rules.specs.Decision.{activeEstimate, rowRule, passesAt, waitTick}
@@ -82,10 +82,11 @@ closedWait s at st bank row =
     (activeEstimate s at st bank)
     (estimate (st .counters) bank f (at f))
 
+-- For every such state and places within a filter. A place of 1,024 or more would name a counter of another filter, cleared at another turn.
 abbrev pub WaitIsClosed : Policy → Type 0
 WaitIsClosed p =
     (s : Setting) (seeds : List ℕ) (st : State) (t bank thread : ℕ) → callRefusal p s seeds st t bank thread ≡ none
-    → (at : ℕ → List ℕ) (row : ℕ) → waitTick s at (turned s st t) bank row ≡ closedWait s at (turned s st t) bank row
+    → (at : ℕ → List ℕ) (row : ℕ) → Within (at 0) → Within (at 1) → waitTick s at (turned s st t) bank row ≡ closedWait s at (turned s st t) bank row
 
 -- ---- what is never held or refused
 
@@ -137,3 +138,16 @@ abbrev pub RunFits : Type 0
 RunFits =
     (w : ℕ) (s : Setting) (seeds : List ℕ) (before : State) (cs : List Call) → s .n < 2 ^ w → Stored w before → All RowFits cs
     → Stored w (after document01 s seeds (fresh s before) cs)
+
+-- ---- all of it
+
+pub record Theorems : Type 0 where
+  pub spans : (p : Policy) → Spans p
+  pub demand3 : (p : Policy) → Demand3 p
+  pub waitIsLeast : (p : Policy) → WaitIsLeast p
+  pub waitIsClosed : (p : Policy) → WaitIsClosed p
+  pub belowThreshold : BelowThreshold
+  pub firstOpened : FirstOpened
+  pub neverMemory : (p : Policy) → NeverMemory p
+  pub stepFits : StepFits
+  pub runFits : RunFits

@@ -1,0 +1,53 @@
+-- Demand 3, from the theorem about spans of every length.
+use mathlib.Core.Path.{_≡_, refl, sym, ap, _∙_}
+use mathlib.Core.List.{List, []}
+use mathlib.Core.Bool.{Bool, _&&_, cond}
+use Prim.Native.Nat.{ℕ, _+_, _-_, _*_, _/_, _%_, _≤_, _<_}
+use native.Mathlib.Omega.{arith}
+use native.Mathlib.Nat.{le-div-iff-mul-le, div-lt-iff-lt-mul}
+use lib.Dec.{leb, le→leb}
+use Rattle.rules.specs.declared.Setting.{Setting}
+use Rattle.rules.specs.Cells.{ceilDiv}
+use Rattle.rules.specs.Setting.{epochLength, rowBound}
+use Rattle.rules.specs.State.{fresh}
+use Rattle.rules.specs.Quota.{Policy}
+use Rattle.rules.specs.Calls.{ofRow, inSpan}
+use Rattle.rules.specs.Claims.{freeMost, spanBound, Spans, Demand3}
+use Rattle.rules.proofs.Tests.{cond-yes}
+use Rattle.rules.proofs.Accept.{Accepted, SetUp, set-up, epoch-long}
+use Rattle.rules.proofs.Trace.{lawful-span}
+use Rattle.rules.proofs.Step.{fresh-holds, run-holds}
+
+pub spans : (p : Policy) → Spans p
+spans p s seeds before e cs bank row start x x1 =
+    let up = set-up p s seeds before e in
+    let ok = up .setting in
+    let run = run-holds p s seeds ok cs (fresh s before) [] (fresh-holds p s seeds before up) in
+    omega (
+      arith,
+      run .2 (λ o. ofRow bank row o && inSpan start x (o .tick)),
+      lawful-span s (omega (arith, epoch-long ok)) (ok .trc-low) (ok .gaps) (run .0) (run .1 .lawful) bank row start x x1,
+    )
+
+-- the bound for a span of W ticks is B: three epochs meet it, so F is 2N
+window-epochs : (d : ℕ) → 2 ≤ d → ceilDiv (ceilDiv (2 * d - 1) d + 1) 2 ≡ 2
+window-epochs d h =
+    let lo : 2 ≤ (2 * d - 1 + (d - 1)) / d = le-div-iff-mul-le {k = d} {x = 2} {y = 2 * d - 1 + (d - 1)} (omega arith) .1 (omega arith) in
+    let hi : (2 * d - 1 + (d - 1)) / d < 3 = div-lt-iff-lt-mul {k = d} {x = 2 * d - 1 + (d - 1)} {y = 3} (omega arith) .1 (omega arith) in
+    let two : (2 * d - 1 + (d - 1)) / d ≡ 2 = omega arith in
+    rw two
+
+window-bound : (p : Policy) (s : Setting) (seeds : List ℕ) → Accepted (p .limits) s seeds → spanBound s (s .w) ≡ rowBound s
+unfolding spanBound rowBound
+window-bound p s seeds ok =
+    let halves : s .w ≡ 2 * epochLength s = omega (arith, ok .even) in
+    let pairs : ceilDiv (ceilDiv (s .w - 1) (epochLength s) + 1) 2 ≡ 2 =
+    ap (λ w. ceilDiv (ceilDiv (w - 1) (epochLength s) + 1) 2) halves ∙ window-epochs (epochLength s) (epoch-long ok) in
+    let free : freeMost s (s .w) ≡ 2 * s .n = ap (λ k. s .n * k) pairs ∙ omega arith in
+    rw (free, cond-yes (leb (2 * s .n * s .trc) (s .w - 1)) (2 * s .n + 1 + (s .w - 1 - 2 * s .n * s .trc) / s .td) (1 + (s .w - 1) / s .trc) (le→leb (2 * s .n * s .trc) (s .w - 1) (ok .room)))
+
+-- Demand 3, for every policy
+pub demand-3 : (p : Policy) → Demand3 p
+demand-3 p s seeds before e cs bank row start =
+    let ok = set-up p s seeds before e .setting in
+    omega (arith, spans p s seeds before e cs bank row start (s .w) (omega (arith, ok .w-low)), window-bound p s seeds ok, ok .bound)

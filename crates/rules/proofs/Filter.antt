@@ -1,0 +1,129 @@
+-- The filters: an activation raises each counter of its row, for counters of any width; the estimate is no more than each counter.
+use mathlib.Core.Path.{_≡_, refl, sym, ap, _∙_, subst}
+use mathlib.Core.Logic.{_⊎_, inl, inr}
+use mathlib.Core.List.{List, [], _∷_, map}
+use mathlib.Core.Bool.{Bool, true, false, not, _||_, cond}
+use Prim.Native.Nat.{ℕ, zero, suc, _+_, _*_, _^_, _≤_, _<_, min}
+use native.Mathlib.Omega.{arith}
+use native.Mathlib.Nat.{le-min, le-refl}
+use native.Mathlib.Decide.{decLt}
+use lib.Dec.{T, ltb, eqb, nltb→le, ltb→lt, eqb→eq, eqb-refl}
+use lib.ListN.{length, getD, List·getD-eq-default}
+use Rattle.rules.specs.Cells.{member, mapCells, All}
+use Rattle.rules.specs.State.{counterCell}
+use Rattle.rules.specs.Hash.{hash, places}
+use Rattle.rules.specs.Filter.{counterAt, estimate, raised, named, counted}
+use Rattle.rules.proofs.Tests.{or-l, or-r, or-e, is-true, cond-yes, cond-no}
+use Rattle.rules.proofs.Cells.{length-mapCells, getD-mapCells, all-mapFrom}
+
+-- ---- one counter
+
+pub raised-le : (n c : ℕ) → c ≤ raised n c
+unfolding raised
+raised-le n c = go (ltb c n)
+  where
+    go : (b : Bool) → c ≤ cond b (c + 1) c
+    go true = omega arith
+    go false = omega arith
+
+pub raised-adds : (n c : ℕ) → min n (c + 1) ≤ raised n c
+unfolding raised
+raised-adds n c = go (ltb c n) refl
+  where
+    go : (b : Bool) → ltb c n ≡ b → min n (c + 1) ≤ cond b (c + 1) c
+    go true e = omega arith
+    go false e = omega (arith, nltb→le c n (subst (λ b. T (not b)) (sym e) tt))
+
+-- a counter below a bound that the limit is below stays below it: no width is ever exceeded
+pub raised-lt : (n c m : ℕ) → n < m → c < m → raised n c < m
+unfolding raised
+raised-lt n c m h k = go (ltb c n) refl
+  where
+    go : (b : Bool) → ltb c n ≡ b → cond b (c + 1) c < m
+    go true e = omega (arith, ltb→lt c n (subst T (sym e) tt))
+    go false e = k
+
+-- ---- all counters
+
+pub length-counted : (n b : ℕ) (at : ℕ → List ℕ) (cs : List ℕ) → length (counted n b at cs) ≡ length cs
+unfolding counted
+length-counted n b at cs = length-mapCells (λ i c. cond (named b at i) (raised n c) c) cs
+
+pub counted-cell : (n b : ℕ) (at : ℕ → List ℕ) (cs : List ℕ) (j : ℕ) → j < length cs
+    → getD (counted n b at cs) j 0 ≡ cond (named b at j) (raised n (getD cs j 0)) (getD cs j 0)
+unfolding counted
+counted-cell n b at cs j h = getD-mapCells (λ i c. cond (named b at i) (raised n c) c) j cs h
+
+pub counted-le : (n b : ℕ) (at : ℕ → List ℕ) (cs : List ℕ) (j : ℕ) → getD cs j 0 ≤ getD (counted n b at cs) j 0
+counted-le n b at cs j = go (decLt j (length cs))
+  where
+    pick : (q : Bool) → getD cs j 0 ≤ cond q (raised n (getD cs j 0)) (getD cs j 0)
+    pick true = raised-le n (getD cs j 0)
+    pick false = le-refl (getD cs j 0)
+
+    go : Dec (j < length cs) → getD cs j 0 ≤ getD (counted n b at cs) j 0
+    go (yes h) = rw (counted-cell n b at cs j h) (pick (named b at j))
+    go (no h) = let z : length cs ≤ j = omega arith in rw (List·getD-eq-default cs 0 z) (omega arith)
+
+-- a place of the row in filter f names its counter
+member-map : (g : ℕ → ℕ) (x : ℕ) (l : List ℕ) → T (member x l) → T (member (g x) (map g l))
+member-map g x [] m = m
+member-map g x (y ∷ ys) m = go (or-e (eqb x y) (member x ys) m) (member-map g x ys)
+  where
+    go : T (eqb x y) ⊎ T (member x ys) → (T (member x ys) → T (member (g x) (map g ys))) → T (eqb (g x) (g y) || member (g x) (map g ys))
+    go (inl k) ih = or-l (eqb (g x) (g y)) (member (g x) (map g ys)) (subst (λ z. T (eqb (g x) (g z))) (eqb→eq x y k) (eqb-refl (g x)))
+    go (inr k) ih = or-r (eqb (g x) (g y)) (member (g x) (map g ys)) (ih k)
+
+named-place : (b : ℕ) (at : ℕ → List ℕ) (f h : ℕ) → f < 2 → T (member h (at f)) → T (named b at (counterCell b f h))
+unfolding named
+named-place b at zero h f2 m =
+    rw (is-true (member (counterCell b 0 h) (map (counterCell b 0) (at 0))) (member-map (counterCell b 0) h (at 0) m)) tt
+named-place b at (suc zero) h f2 m =
+    or-r (member (counterCell b 1 h) (map (counterCell b 0) (at 0))) (member (counterCell b 1 h) (map (counterCell b 1) (at 1)))
+    (member-map (counterCell b 1) h (at 1) m)
+named-place b at (suc (suc f)) h f2 m = absurd (omega arith)
+
+pub counted-adds : (n b : ℕ) (at : ℕ → List ℕ) (cs : List ℕ) (f h : ℕ) → f < 2 → T (member h (at f)) → counterCell b f h < length cs
+    → min n (getD cs (counterCell b f h) 0 + 1) ≤ getD (counted n b at cs) (counterCell b f h) 0
+counted-adds n b at cs f h f2 m k =
+    let j = counterCell b f h in
+    rw (counted-cell n b at cs j k, cond-yes (named b at j) (raised n (getD cs j 0)) (getD cs j 0) (named-place b at f h f2 m))
+    (raised-adds n (getD cs j 0))
+
+-- counters stay below any bound that the threshold is below
+pub counted-fits : (m n b : ℕ) (at : ℕ → List ℕ) (cs : List ℕ) → n < m → All (λ c. c < m) cs → All (λ c. c < m) (counted n b at cs)
+unfolding counted
+counted-fits m n b at cs h a = all-mapFrom (λ c. c < m) (λ i c. cond (named b at i) (raised n c) c) (λ i c k. pick (named b at i) c k) 0 cs a
+  where
+    pick : (q : Bool) (c : ℕ) → c < m → cond q (raised n c) c < m
+    pick true c k = raised-lt n c m h k
+    pick false c k = k
+
+-- ---- the estimate
+
+-- what is at most each of the row's counters is at most the estimate
+pub estimate-least : (seeds cs : List ℕ) (b f r k : ℕ) → ((h : ℕ) → T (member h (places seeds r)) → k ≤ getD cs (counterCell b f h) 0)
+    → k ≤ estimate cs b f (places seeds r)
+unfolding estimate places
+estimate-least seeds cs b f r k g =
+    le-min (le-min (g h0 (here h0 (h1 ∷ h2 ∷ h3 ∷ []))) (g h1 (there h0 h1 (h1 ∷ h2 ∷ h3 ∷ []) (here h1 (h2 ∷ h3 ∷ [])))))
+    (le-min (g h2 (there h0 h2 (h1 ∷ h2 ∷ h3 ∷ []) (there h1 h2 (h2 ∷ h3 ∷ []) (here h2 (h3 ∷ [])))))
+    (g h3 (there h0 h3 (h1 ∷ h2 ∷ h3 ∷ []) (there h1 h3 (h2 ∷ h3 ∷ []) (there h2 h3 (h3 ∷ []) (here h3 []))))))
+  where
+    h0 : ℕ
+    h0 = hash seeds 0 r
+
+    h1 : ℕ
+    h1 = hash seeds 1 r
+
+    h2 : ℕ
+    h2 = hash seeds 2 r
+
+    h3 : ℕ
+    h3 = hash seeds 3 r
+
+    here : (x : ℕ) (l : List ℕ) → T (member x (x ∷ l))
+    here x l = or-l (eqb x x) (member x l) (eqb-refl x)
+
+    there : (y x : ℕ) (l : List ℕ) → T (member x l) → T (member x (y ∷ l))
+    there y x l h = or-r (eqb x y) (member x l) h

@@ -1,0 +1,264 @@
+-- Stored cells stay within their widths: counters of any width w with N below 2^w, 64-bit ticks and head, 32-bit rows and thread counters.
+use mathlib.Core.Path.{_≡_, refl, sym, ap, _∙_, subst}
+use mathlib.Core.List.{List, [], _∷_, _++_}
+use mathlib.Core.Bool.{Bool, true, false, not, _&&_, cond}
+use Prim.Native.Nat.{ℕ, zero, suc, _+_, _-_, _*_, _/_, _%_, _^_, _≤_, _<_, min}
+use native.Mathlib.Omega.{arith}
+use native.Mathlib.Nat.{add-zero, div-le-of-le-mul}
+use native.Mathlib.Decide.{decLt, ℕ-discrete}
+use lib.Dec.{T, ltb, ltb→lt, lit<}
+use lib.ListN.{length, getD, set, take, replicate, List·getD-eq-default}
+use lib.Seq.{getD-set-same, getD-set-other, getD-take, set-out}
+use Rattle.rules.specs.declared.Setting.{Setting}
+use Rattle.rules.specs.declared.Head.{Head}
+use Rattle.rules.specs.declared.Answer.{Answer}
+use Rattle.rules.specs.declared.Answer.the-variants.{Opened, Wait, Quota}
+use Rattle.rules.specs.Cells.{mapFrom, clearCells, All}
+use Rattle.rules.specs.Setting.{historyLength, indexScale}
+use Rattle.rules.specs.State.{State, countersUsed, threadsUsed, threadCell, rowWord, cells, headWords, freshHead, fresh}
+use Rattle.rules.specs.Clock.{epoch, clears, activeFilter, turnedCounters, turnedThreads, movedHead, turned}
+use Rattle.rules.specs.Hash.{places}
+use Rattle.rules.specs.Filter.{raised}
+use Rattle.rules.specs.Quota.{document01, limits01, quotaDown, inFlightHere, indexCounter}
+use Rattle.rules.specs.Decision.{quotaRule, decide, activatedHead, activatedThreads, activated}
+use Rattle.rules.specs.Calls.{Call, request, done, index, Outcome, callRefusal, doneRefusal, afterAnswer, requested, reported, indexShown, step, after}
+use Rattle.rules.specs.Claims.{Fits, Stored, RowFits, StepFits, RunFits}
+use Rattle.rules.proofs.Cells.{all-mapFrom}
+use Rattle.rules.proofs.Accept.{Taken, taken, done-taken}
+use Rattle.rules.proofs.Ring.{next-lt}
+use Rattle.rules.proofs.Filter.{raised-lt, counted-fits}
+use Rattle.rules.proofs.Memory.{memory}
+use Rattle.rules.proofs.Step.{opened-rules, by-refusal}
+
+-- ---- lists of cells below a bound
+
+module _ (m : ℕ) where
+  abbrev Below : List ℕ → Type 0
+  Below cs = All (λ c. c < m) cs
+
+  below-set : (l : List ℕ) (i v : ℕ) → v < m → Below l → Below (set l i v)
+  below-set [] i v h a = tt
+  below-set (c ∷ cs) zero v h a = (h, a .1)
+  below-set (c ∷ cs) (suc i) v h a = (a .0, below-set cs i v h (a .1))
+
+  below-clear : (p : ℕ → Bool) (l : List ℕ) → Below l → Below (clearCells p l)
+  below-clear p l a = all-mapFrom (λ c. c < m) (λ i c. cond (p i) 0 c) (λ i c h. pick (p i) c h) 0 l a
+    where
+      pick : (q : Bool) (c : ℕ) → c < m → cond q 0 c < m
+      pick true c h = omega arith
+      pick false c h = h
+
+  below-at : (l : List ℕ) (i : ℕ) → 0 < m → Below l → getD l i 0 < m
+  below-at [] i h a = h
+  below-at (c ∷ cs) zero h a = a .0
+  below-at (c ∷ cs) (suc i) h a = below-at cs i h (a .1)
+
+  below-append : (xs ys : List ℕ) → Below xs → Below ys → Below (xs ++ ys)
+  below-append [] ys a b = b
+  below-append (x ∷ xs) ys a b = (a .0, below-append xs ys (a .1) b)
+
+  below-parts : (xs ys : List ℕ) → Below (xs ++ ys) → Below xs × Below ys
+  below-parts [] ys a = (tt, a)
+  below-parts (x ∷ xs) ys a =
+      let r = below-parts xs ys (a .1) in
+      ((a .0, r .0), r .1)
+
+  -- the n cells from i on
+  below-cells : (l : List ℕ) (i n : ℕ) → ((j : ℕ) → j < n → getD l (i + j) 0 < m) → Below (cells l i n)
+  below-cells l i zero f = tt
+  below-cells l i (suc n) f =
+      let first = f 0 (omega arith) in
+      (rw add-zero at first, below-cells l (suc i) n (λ j h. let e : i + suc j ≡ suc i + j = omega arith in rw e at (f (suc j) (omega arith))))
+
+  cells-below : (l : List ℕ) (i n : ℕ) → Below (cells l i n) → (j : ℕ) → j < n → getD l (i + j) 0 < m
+  cells-below l i zero a j h = absurd (omega arith)
+  cells-below l i (suc n) a zero h = rw add-zero (a .0)
+  cells-below l i (suc n) a (suc j) h =
+      let e : i + suc j ≡ suc i + j = omega arith in
+      rw e (cells-below l (suc i) n (a .1) j (omega arith))
+
+-- ---- the head
+
+-- a head whose 22 words are below the bound
+record Words (m : ℕ) (d : Head) : Type 0 where
+  last : d .last < m
+  next : d .next < m
+  bank : (j : ℕ) → j < 16 → getD (d .bank) j 0 < m
+  rank : (j : ℕ) → j < 4 → getD (d .rank) j 0 < m
+
+words : (m : ℕ) (d : Head) → All (λ c. c < m) (headWords d) → Words m d
+unfolding headWords
+words m d a =
+    let r = below-parts m (cells (d .bank) 0 16) (cells (d .rank) 0 4) (a .1 .1) in
+    record {
+      last = a .0;
+      next = a .1 .0;
+      bank = λ j h. let e : 0 + j ≡ j = omega arith in rw e at (cells-below m (d .bank) 0 16 (r .0) j h);
+      rank = λ j h. let e : 0 + j ≡ j = omega arith in rw e at (cells-below m (d .rank) 0 4 (r .1) j h);
+    }
+
+from-words : (m : ℕ) (d : Head) → Words m d → All (λ c. c < m) (headWords d)
+unfolding headWords
+from-words m d w = (
+  w .last,
+  (
+    w .next,
+    below-append m (cells (d .bank) 0 16) (cells (d .rank) 0 4)
+        (below-cells m (d .bank) 0 16 (λ j h. let e : 0 + j ≡ j = omega arith in rw e (w .bank j h)))
+        (below-cells m (d .rank) 0 4 (λ j h. let e : 0 + j ≡ j = omega arith in rw e (w .rank j h))),
+  ),
+)
+
+set-below : (m : ℕ) (l : List ℕ) (i j v : ℕ) → v < m → getD l j 0 < m → getD (set l i v) j 0 < m
+set-below m l i j v hv h = go (ℕ-discrete j i) (decLt i (length l))
+  where
+    go : Dec (j ≡ i) → Dec (i < length l) → getD (set l i v) j 0 < m
+    go (yes e) (yes k) = rw (e, getD-set-same l i v 0 k) hv
+    go (yes e) (no k) = rw (set-out l i v (omega arith)) h
+    go (no e) d = rw (getD-set-other l i j v 0 e) h
+
+activated-words : (m h : ℕ) (d : Head) (b : ℕ) → Words m d → d .next < h → h ≤ m → d .last + 1 < m → Words m (activatedHead h d b)
+unfolding activatedHead
+activated-words m h d b w nh hm lm =
+    record {
+      last = w .last;
+      next = omega (arith, next-lt h (d .next) nh);
+      bank = λ j k. set-below m (d .bank) b j (d .last + 1) lm (w .bank j k);
+      rank = rank;
+    }
+  where
+    rank : (j : ℕ) → j < 4 → getD ((d .last + 1) ∷ take 3 (d .rank)) j 0 < m
+    rank zero k = lm
+    rank (suc j) k = rw (getD-take 3 (d .rank) j 0 (omega arith)) (w .rank j (omega arith))
+
+-- ---- one call
+
+-- the quota is at most Q
+pub quota-most : (s : Setting) (c : ℕ) → quotaDown s c ≤ s .q
+unfolding quotaDown
+quota-most s c = div-le-of-le-mul (indexScale s) (bound (s .q) (indexScale s - min c (indexScale s)) (indexScale s) (omega arith))
+  where
+    bound : (a x y : ℕ) → x ≤ y → a * x ≤ y * a
+    bound zero x y h = omega arith
+    bound (suc a) x y h = omega (arith, bound a x y h)
+
+turned-stored : (w t : ℕ) (s : Setting) (st : State) → t < 2 ^ 62 → Stored w st → Stored w (turned s st t)
+unfolding turned turnedCounters turnedThreads movedHead
+turned-stored w t s st early f =
+    let d = words (2 ^ 64) (st .head) (f .head) in
+    record {
+      head = from-words (2 ^ 64) (movedHead (st .head) t) (record { last = omega arith; next = d .next; bank = d .bank; rank = d .rank });
+      counters = below-clear (2 ^ w) (λ i. ltb i (countersUsed s) && clears (epoch s (st .head .last)) (epoch s t) (i / 1024 % 2)) (st .counters) (f .counters);
+      ticks = f .ticks;
+      rows = f .rows;
+      threads = below-clear (2 ^ 32) (λ i. ltb i (threadsUsed s) && (ltb (i % 3) 2 && clears (epoch s (st .head .last)) (epoch s t) (i % 3))) (st .threads) (f .threads);
+    }
+
+activated-threads-fit : (s : Setting) (ts : List ℕ) (b th : ℕ) (black : Bool) → indexScale s < 2 ^ 32 → getD ts (threadCell s b th 2) 0 < 255
+    → Fits 32 ts → Fits 32 (activatedThreads s ts b th black)
+unfolding activatedThreads
+activated-threads-fit s ts b th black scale few f = pick black
+  where
+    flying : List ℕ
+    flying = set ts (threadCell s b th 2) (getD ts (threadCell s b th 2) 0 + 1)
+
+    flies : Fits 32 flying
+    flies = below-set (2 ^ 32) ts (threadCell s b th 2) (getD ts (threadCell s b th 2) 0 + 1) (omega arith) f
+
+    up : (k : ℕ) → raised (indexScale s) (getD ts (threadCell s b th k) 0) < 2 ^ 32
+    up k = raised-lt (indexScale s) (getD ts (threadCell s b th k) 0) (2 ^ 32) scale (below-at (2 ^ 32) ts (threadCell s b th k) (lit< tt) f)
+
+    first : List ℕ
+    first = set flying (threadCell s b th 0) (raised (indexScale s) (getD ts (threadCell s b th 0) 0))
+
+    pick : (q : Bool) → Fits 32 (cond q (set first (threadCell s b th 1) (raised (indexScale s) (getD ts (threadCell s b th 1) 0))) flying)
+    pick true = below-set (2 ^ 32) first (threadCell s b th 1) _ (up 1) (below-set (2 ^ 32) flying (threadCell s b th 0) _ (up 0) flies)
+    pick false = flies
+
+-- an activation that the quota lets pass, on the turned state
+activated-stored : (w : ℕ) (s : Setting) (at : ℕ → List ℕ) (st : State) (b th r : ℕ) → s .n < 2 ^ w → st .head .last < 2 ^ 62
+    → st .head .next < historyLength s → historyLength s ≤ 4096 → b < 16 → r < 65536 → s .l ≤ 2 ^ 24 → s .q ≤ 255
+    → T (quotaRule document01 s st b th) → Stored w st → Stored w (activated s at st b th r)
+unfolding activated
+activated-stored w s at st b th r nw early inRing short b16 r16 l24 q255 quota f =
+    record {
+      head = from-words (2 ^ 64) (activatedHead (historyLength s) (st .head) b)
+          (activated-words (2 ^ 64) (historyLength s) (st .head) b (words (2 ^ 64) (st .head) (f .head)) inRing (omega arith) (omega arith));
+      counters = counted-fits (2 ^ w) (s .n) b at (st .counters) nw (f .counters);
+      ticks = below-set (2 ^ 64) (st .ticks) (st .head .next) (st .head .last + 1) (omega arith) (f .ticks);
+      rows = below-set (2 ^ 32) (st .rows) (st .head .next) (rowWord b r) (omega arith) (f .rows);
+      threads = activated-threads-fit s (st .threads) b th _ (omega arith) few (f .threads);
+    }
+  where
+    few : getD (st .threads) (threadCell s b th 2) 0 < 255
+    few =
+        let c = indexCounter s (st .threads) b th (activeFilter s (st .head .last)) in
+        omega (arith, ltb→lt (inFlightHere s (st .threads) b th) (quotaDown s c) quota, quota-most s c)
+
+opened-fits : (w : ℕ) (s : Setting) (at : ℕ → List ℕ) (st : State) (t b th r : ℕ) → s .n < 2 ^ w → t < 2 ^ 62
+    → st .head .next < historyLength s → historyLength s ≤ 4096 → b < 16 → r < 65536 → s .l ≤ 2 ^ 24 → s .q ≤ 255
+    → decide document01 s at (turned s st t) b th r ≡ Opened → Stored w (turned s st t) → Stored w (activated s at (turned s st t) b th r)
+unfolding turned movedHead
+opened-fits w s at st t b th r nw early inRing short b16 r16 l24 q255 e g =
+    activated-stored w s at (turned s st t) b th r nw early inRing short b16 r16 l24 q255 (opened-rules document01 s at (turned s st t) b th r e .0) g
+
+done-fits : (w : ℕ) (s : Setting) (st : State) (b th : ℕ) → Stored w st → Stored w (reported s st b th .state)
+unfolding reported
+done-fits w s st b th f =
+    record {
+      head = f .head;
+      counters = f .counters;
+      ticks = f .ticks;
+      rows = f .rows;
+      threads = below-set (2 ^ 32) (st .threads) (threadCell s b th 2) (getD (st .threads) (threadCell s b th 2) 0 - 1)
+          (omega (arith, below-at (2 ^ 32) (st .threads) (threadCell s b th 2) (lit< tt) (f .threads))) (f .threads);
+    }
+
+pub step-fits : StepFits
+unfolding step requested indexShown
+step-fits w s seeds st (request t b th r) nw f r16 =
+    by-refusal (λ o. Stored w (o .state)) (callRefusal document01 s seeds st t b th) st (requested document01 s at (turned s st t) b th r)
+    (λ e. let k = taken document01 s seeds st t b th e in asked k (turned-stored w t s st (k .early) f)) f
+  where
+    at : ℕ → List ℕ
+    at i = places seeds r
+
+    asked : Taken document01 s seeds st t b th → Stored w (turned s st t)
+        → Stored w (afterAnswer (decide document01 s at (turned s st t) b th r) (turned s st t) (activated s at (turned s st t) b th r))
+    asked k g = go (decide document01 s at (turned s st t) b th r) refl
+      where
+        go : (a : Answer) → decide document01 s at (turned s st t) b th r ≡ a
+            → Stored w (afterAnswer a (turned s st t) (activated s at (turned s st t) b th r))
+        go Opened e = opened-fits w s at st t b th r nw (k .early) (memory s st (k .memory) .inRing) (k .setting .short) (omega (arith, k .bank-in, k .setting .banks-high)) r16 (k .setting .l-high) (k .setting .q-high) e g
+        go (Wait c u) e = g
+        go Quota e = g
+step-fits w s seeds st (done t b th) nw f r16 =
+    by-refusal (λ o. Stored w (o .state)) (doneRefusal document01 s seeds st t b th) st (reported s (turned s st t) b th)
+    (λ e. let k = taken document01 s seeds st t b th (done-taken document01 s seeds st t b th e .0) in done-fits w s (turned s st t) b th (turned-stored w t s st (k .early) f)) f
+step-fits w s seeds st (index t b th) nw f r16 =
+    by-refusal (λ o. Stored w (o .state)) (callRefusal document01 s seeds st t b th) st (indexShown document01 s (turned s st t) b th)
+    (λ e. turned-stored w t s st (taken document01 s seeds st t b th e .early) f) f
+
+-- ---- a list of calls
+
+fresh-stored : (w : ℕ) (s : Setting) (st : State) → Stored w st → Stored w (fresh s st)
+unfolding fresh freshHead headWords
+fresh-stored w s st f =
+    record {
+      head = below-zeros 22;
+      counters = below-clear (2 ^ w) (λ i. ltb i (countersUsed s)) (st .counters) (f .counters);
+      ticks = below-clear (2 ^ 64) (λ i. ltb i (historyLength s)) (st .ticks) (f .ticks);
+      rows = below-clear (2 ^ 32) (λ i. ltb i (historyLength s)) (st .rows) (f .rows);
+      threads = below-clear (2 ^ 32) (λ i. ltb i (threadsUsed s)) (st .threads) (f .threads);
+    }
+  where
+    below-zeros : (n : ℕ) → All (λ c. c < 2 ^ 64) (replicate n 0)
+    below-zeros zero = tt
+    below-zeros (suc n) = (lit< tt, below-zeros n)
+
+pub run-fits : RunFits
+run-fits w s seeds before cs nw f rs = go cs (fresh s before) rs (fresh-stored w s before f)
+  where
+    go : (cs : List Call) (st : State) → All RowFits cs → Stored w st → Stored w (after document01 s seeds st cs)
+    go [] st rs g = g
+    go (c ∷ cs) st rs g = go cs (step document01 s seeds st c .state) (rs .1) (step-fits w s seeds st c nw g (rs .0))

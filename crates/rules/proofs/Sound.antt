@@ -1,0 +1,144 @@
+-- No call of a list after set-up is refused with 6 or 7.
+use mathlib.Core.Path.{_≡_, refl, sym, ap, _∙_, subst}
+use mathlib.Core.Logic.{_≢_}
+use mathlib.Core.List.{List, [], _∷_}
+use mathlib.Core.Bool.{Bool, true, false, not, _||_}
+use Prim.Native.Nat.{ℕ, _+_, _^_, _≤_, _<_}
+use native.Mathlib.Omega.{arith}
+use lib.Dec.{leb, ltb, eqb}
+use borrow.Author.Tests.{le-ltb}
+use lib.ListN.{length, getD}
+use Rattle.rules.specs.declared.Setting.{Setting}
+use Rattle.rules.specs.declared.Answer.{Answer}
+use Rattle.rules.specs.declared.Answer.the-variants.{Opened, Wait, Quota}
+use Rattle.rules.specs.Cells.{All}
+use Rattle.rules.specs.Answers.{Refusal, none, outOfRange, shortWindow, badDelay, longHistory, aboveLimit, shortBuffer, badMemory, outsideSetting, badTick, noneInFlight, refusalNumber, refuse, orElse}
+use Rattle.rules.specs.Setting.{historyLength, settingRefusal}
+use Rattle.rules.specs.State.{State, countersUsed, threadsUsed, threadCell, tooShort, fresh}
+use Rattle.rules.specs.Clock.{turned}
+use Rattle.rules.specs.Hash.{places}
+use Rattle.rules.specs.History.{memoryOk}
+use Rattle.rules.specs.Quota.{Policy}
+use Rattle.rules.specs.Decision.{decide, activated}
+use Rattle.rules.specs.Calls.{Call, request, done, index, Reply, refused, answered, finished, shown, returnCode, Outcome, setupRefusal, callRefusal, doneRefusal, afterAnswer, requested, reported, indexShown, step, replies, after}
+use Rattle.rules.specs.Claims.{NeverMemory}
+use Rattle.rules.proofs.Tests.{is-true}
+use Rattle.rules.proofs.Accept.{Accepted, Long, SetUp, set-up, history-pos, orElse-none, taken, done-taken}
+use Rattle.rules.proofs.Memory.{Memory, memory, memory-ok, fresh-memory, fresh-long, turned-memory, turned-long, activated-memory, activated-long, reported-long}
+use Rattle.rules.proofs.Step.{by-refusal}
+
+-- what refusals 6 and 7 test
+pub record Sound (s : Setting) (st : State) : Type 0 where
+  pub long : Long s st
+  pub ok : Memory s (st .head) (st .ticks)
+
+pub long-not-short : (s : Setting) (st : State) → Long s st → tooShort s st ≡ false
+unfolding tooShort
+long-not-short s st l =
+    rw (
+      le-ltb (length (st .counters)) (countersUsed s) (l .counters),
+      le-ltb (length (st .ticks)) (historyLength s) (l .ticks),
+      le-ltb (length (st .rows)) (historyLength s) (l .rows),
+      le-ltb (length (st .threads)) (threadsUsed s) (l .threads),
+    )
+
+-- ---- every call keeps it
+
+pub step-sound : (p : Policy) (s : Setting) (seeds : List ℕ) (st : State) (c : Call) → Sound s st → Sound s (step p s seeds st c .state)
+unfolding step requested reported indexShown
+step-sound p s seeds st (request t b th r) h =
+    by-refusal (λ o. Sound s (o .state)) (callRefusal p s seeds st t b th) st (requested p s at (turned s st t) b th r)
+    (λ e. go (decide p s at (turned s st t) b th r) (moved (taken p s seeds st t b th e .later))) h
+  where
+    at : ℕ → List ℕ
+    at f = places seeds r
+
+    moved : st .head .last ≤ t → Sound s (turned s st t)
+    moved k = record { long = turned-long s st t (h .long); ok = turned-memory s st t k (h .ok) }
+
+    go : (a : Answer) → Sound s (turned s st t) → Sound s (afterAnswer a (turned s st t) (activated s at (turned s st t) b th r))
+    go Opened k = record { long = activated-long s at (turned s st t) b th r (k .long); ok = activated-memory s at (turned s st t) b th r (k .long) (k .ok) }
+    go (Wait c u) k = k
+    go Quota k = k
+step-sound p s seeds st (done t b th) h =
+    by-refusal (λ o. Sound s (o .state)) (doneRefusal p s seeds st t b th) st (reported s (turned s st t) b th)
+    (λ e. after-done (taken p s seeds st t b th (done-taken p s seeds st t b th e .0) .later)) h
+  where
+    after-done : st .head .last ≤ t → Sound s (reported s (turned s st t) b th .state)
+    after-done k = record { long = reported-long s (turned s st t) b th (turned-long s st t (h .long)); ok = turned-memory s st t k (h .ok) }
+step-sound p s seeds st (index t b th) h =
+    by-refusal (λ o. Sound s (o .state)) (callRefusal p s seeds st t b th) st (indexShown p s (turned s st t) b th)
+    (λ e. record { long = turned-long s st t (h .long); ok = turned-memory s st t (taken p s seeds st t b th e .later) (h .ok) }) h
+
+-- ---- so 6 and 7 do not come
+
+later-refusal : (x y : Bool) → (refusalNumber (refuse x outsideSetting (refuse y badTick none)) ≢ 6) × (refusalNumber (refuse x outsideSetting (refuse y badTick none)) ≢ 7)
+later-refusal true y = (omega arith, omega arith)
+later-refusal false true = (omega arith, omega arith)
+later-refusal false false = (omega arith, omega arith)
+
+pub call-sound : (p : Policy) (s : Setting) (seeds : List ℕ) (st : State) (t b th : ℕ) → settingRefusal (p .limits) s seeds ≡ none → Sound s st
+    → (refusalNumber (callRefusal p s seeds st t b th) ≢ 6) × (refusalNumber (callRefusal p s seeds st t b th) ≢ 7)
+unfolding callRefusal
+call-sound p s seeds st t b th e h =
+    rw (e, long-not-short s st (h .long), is-true (memoryOk s st) (memory-ok s st (h .ok)))
+    (later-refusal (leb (s .banks) b || leb (s .threads) th) (ltb t (st .head .last) || leb (2 ^ 62) t))
+
+done-sound : (p : Policy) (s : Setting) (seeds : List ℕ) (st : State) (t b th : ℕ) → settingRefusal (p .limits) s seeds ≡ none → Sound s st
+    → (refusalNumber (doneRefusal p s seeds st t b th) ≢ 6) × (refusalNumber (doneRefusal p s seeds st t b th) ≢ 7)
+unfolding doneRefusal
+done-sound p s seeds st t b th e h = go (callRefusal p s seeds st t b th) (eqb (getD (st .threads) (threadCell s b th 2) 0) 0) (call-sound p s seeds st t b th e h)
+  where
+    late : (x : Bool) → (refusalNumber (refuse x noneInFlight none) ≢ 6) × (refusalNumber (refuse x noneInFlight none) ≢ 7)
+    late true = (omega arith, omega arith)
+    late false = (omega arith, omega arith)
+
+    go : (r : Refusal) (x : Bool) → (refusalNumber r ≢ 6) × (refusalNumber r ≢ 7)
+        → (refusalNumber (orElse r (refuse x noneInFlight none)) ≢ 6) × (refusalNumber (orElse r (refuse x noneInFlight none)) ≢ 7)
+    go none x k = late x
+    go outOfRange x k = k
+    go shortWindow x k = k
+    go badDelay x k = k
+    go longHistory x k = k
+    go aboveLimit x k = k
+    go shortBuffer x k = k
+    go badMemory x k = k
+    go outsideSetting x k = k
+    go badTick x k = k
+    go noneInFlight x k = k
+
+-- a reply's return code tells
+abbrev Codes : Reply → Type 0
+Codes r = (returnCode r ≢ 6) × (returnCode r ≢ 7)
+
+step-codes : (p : Policy) (s : Setting) (seeds : List ℕ) (st : State) (c : Call) → settingRefusal (p .limits) s seeds ≡ none → Sound s st
+    → Codes (step p s seeds st c .reply)
+unfolding step requested reported indexShown
+step-codes p s seeds st (request t b th r) e h =
+    by-refusal (λ o. Codes (o .reply)) (callRefusal p s seeds st t b th) st (requested p s (λ f. places seeds r) (turned s st t) b th r)
+    (λ k. (omega arith, omega arith)) (call-sound p s seeds st t b th e h)
+step-codes p s seeds st (done t b th) e h =
+    by-refusal (λ o. Codes (o .reply)) (doneRefusal p s seeds st t b th) st (reported s (turned s st t) b th)
+    (λ k. (omega arith, omega arith)) (done-sound p s seeds st t b th e h)
+step-codes p s seeds st (index t b th) e h =
+    by-refusal (λ o. Codes (o .reply)) (callRefusal p s seeds st t b th) st (indexShown p s (turned s st t) b th)
+    (λ k. (omega arith, omega arith)) (call-sound p s seeds st t b th e h)
+
+codes-never : (r : Reply) → Codes r → (r ≢ refused shortBuffer) × (r ≢ refused badMemory)
+codes-never r k = ((λ q. k .0 (ap returnCode q)), (λ q. k .1 (ap returnCode q)))
+
+pub fresh-sound : (p : Policy) (s : Setting) (seeds : List ℕ) (st : State) → SetUp p s seeds st → Sound s (fresh s st)
+fresh-sound p s seeds st up =
+    record { long = fresh-long s st (up .long); ok = fresh-memory s st (history-pos (up .setting)) (up .setting .banks-high) }
+
+pub never-memory : (p : Policy) → NeverMemory p
+unfolding setupRefusal
+never-memory p s seeds before e cs =
+    go cs (fresh s before) (fresh-sound p s seeds before (set-up p s seeds before e))
+  where
+    none-setting : settingRefusal (p .limits) s seeds ≡ none
+    none-setting = orElse-none (settingRefusal (p .limits) s seeds) (refuse (tooShort s before) shortBuffer none) e .0
+
+    go : (cs : List Call) (st : State) → Sound s st → All (λ r. (r ≢ refused shortBuffer) × (r ≢ refused badMemory)) (replies p s seeds st cs)
+    go [] st h = tt
+    go (c ∷ cs) st h = (codes-never (step p s seeds st c .reply) (step-codes p s seeds st c none-setting h), go cs (step p s seeds st c .state) (step-sound p s seeds st c h))

@@ -1,0 +1,123 @@
+//! Plausible wrong behaviours of the throttle. A test campaign switches on
+//! one of them and asks whether it would notice. `Fault::None` is the plain
+//! specification.
+
+/// Lists the variants once, for the enum and for `Fault::ALL`.
+macro_rules! faults {
+    ($($(#[$text:meta])* $name:ident,)*) => {
+        /// One wrong behaviour, or none.
+        #[derive(Clone, Copy, Debug, Default, PartialEq, Eq)]
+        pub enum Fault {
+            /// The plain specification.
+            #[default]
+            None,
+            $($(#[$text])* $name,)*
+        }
+
+        impl Fault {
+            /// Every wrong behaviour, without `None`.
+            pub const ALL: &'static [Fault] = &[$(Fault::$name,)*];
+        }
+    };
+}
+
+faults! {
+    /// The filter cleared at the last epoch turn is tested.
+    TestsClearedFilter,
+    /// A waiting request is counted in the filters.
+    CountsWaits,
+    /// A request held by the quota is counted in the filters.
+    CountsQuota,
+    /// A request refused for its tick is counted in the filters.
+    CountsRefused,
+    /// A counter named by two hash functions gains 1 for each.
+    AddsTwiceToShared,
+    /// The wait tick leaves out the epoch turns.
+    DelayAloneAsWait,
+    /// Requests in flight are forgotten at an epoch turn.
+    DropsInFlightAtTurn,
+    /// An epoch turn clears the called bank only.
+    ClearsCalledBankOnly,
+    /// A done refused with 10 moves the clock.
+    RefusedDoneMovesClock,
+    /// The rank rule looks at the third last activation.
+    RankThirdLast,
+    /// The row rule takes tRC for tD.
+    RowDelayIsTrc,
+    /// A filter counter standing at N still gains 1.
+    CountsAtThreshold,
+    /// The history place moves to 0 from H, not from H - 1.
+    PlaceWrapsAtH,
+    /// Filter 0 counts an activation twice, filter 1 never.
+    FilterZeroTwice,
+    /// The last tick of the head is kept instead of the call's tick.
+    ClockStands,
+    /// An activation is kept with the last tick before the call.
+    StampsLastTick,
+    /// The history length is ceil(4 * tD / tFAW).
+    HistoryPaperLength,
+    /// The row bound has N where 2N belongs.
+    BoundCountsN,
+    /// An empty history place matches row 0 of bank 0.
+    EmptyPlaceMatches,
+    /// Kept ticks are stored as they are.
+    StoresWithoutPlusOne,
+    /// The bank rule asks for more than tRC ticks.
+    BankGapStrict,
+    /// The wait tick regards only the rule that names the cause.
+    WaitForNamedCause,
+    /// The rank rule looks at the least of the four kept ticks.
+    RankLeastOfFour,
+    /// The index answers c clipped to D.
+    IndexClipped,
+    /// The quota is rounded up.
+    QuotaRoundsUp,
+    /// Refusal 7 also compares the oldest history tick with the newest.
+    WrapPairIsRise,
+    /// Refusal 7 takes two equal history ticks for a rise.
+    EqualIsRise,
+    /// Refusal 7 looks at kept ticks of banks outside the setting.
+    LooksAtForeignBanks,
+    /// A bad bank or thread is reported before bad memory.
+    EightBeforeSeven,
+    /// A stored tick is compared with the last tick without taking the 1 off.
+    KeptTickOffByOne,
+    /// A row is blacklisted only above N.
+    BlacklistedAboveN,
+    /// The estimate is the greatest of the four counters.
+    EstimateGreatest,
+    /// A tick at a boundary belongs to the old epoch.
+    BoundaryInOldEpoch,
+    /// Two or more epochs passed clear one filter only.
+    TwoEpochsClearOne,
+    /// An epoch turn leaves the index counters standing.
+    KeepsIndexAtTurn,
+    /// Only the index counter in test gains.
+    IndexOfTestedOnly,
+    /// Blacklisted is judged after the activation was counted.
+    BlacklistedAfterCounting,
+    /// Every activation raises the index.
+    IndexCountsAll,
+    /// The history compares the row and forgets the bank.
+    HistoryForgetsBank,
+    /// In flight is taken over all banks of the thread.
+    InFlightOfAllBanks,
+    /// The quota holds only when in flight is above it.
+    QuotaStrict,
+    /// The bank, rank and row rules come before the quota.
+    QuotaLast,
+    /// The rank rule asks for more than tFAW ticks.
+    RankGapStrict,
+    /// An activation tD ticks old still holds the row.
+    DelayInclusive,
+    /// A waiting request does not move the clock.
+    WaitKeepsClock,
+    /// Reading the index does not move the clock.
+    IndexKeepsClock,
+    /// A tick equal to the last one is refused.
+    EqualTickRefused,
+    /// The tick 2^62 is taken.
+    TickLimitTaken,
+    /// The seeds are read from the highest bit of the row down.
+    SeedsReversed,
+}

@@ -1,0 +1,25 @@
+//! A second implementation of the BlockHammer throttle for one rank of DRAM,
+//! written sentence by sentence after the specification. It is meant for
+//! comparison: every rule is spelled out the slow way, so that a reader can
+//! hold it against the text.
+//!
+//! - `setting`: the setting, its derived numbers and refusals 1 to 5
+//! - `state`: the lent memory and refusals 6 and 7
+//! - `clock`: epochs and the clearing at an epoch turn
+//! - `decision`: the rules about a request and what an activation writes
+//! - `model`: the four calls (set-up, request, done, index)
+//! - `log`: the log checker and an encoder for logs
+//! - `fault`: wrong behaviours that can be switched on, one at a time
+
+mod clock;
+pub mod decision;
+pub mod fault;
+pub mod log;
+pub mod model;
+pub mod setting;
+pub mod state;
+
+pub use fault::Fault;
+pub use model::{done, index, request, setup};
+pub use setting::Config;
+pub use state::State;

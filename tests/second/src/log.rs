@@ -1,0 +1,303 @@
+//! The log checker: reads a log of 512-byte blocks, runs its records through
+//! the throttle and reports whether the log agrees with the rules. An encoder
+//! for logs stands at the end.
+
+use crate::decision::OPENED;
+use crate::fault::Fault;
+use crate::model::{done, request, setup};
+use crate::setting::{accept, Config};
+use crate::state::State;
+use std::fmt;
+
+/// Bytes of a block.
+pub const BLOCK: usize = 512;
+/// Most records of a block.
+pub const RECORDS: usize = 20;
+/// Bytes of a record.
+const RECORD: usize = 24;
+/// First byte of the body.
+const BODY: usize = 8;
+/// First byte of the two sums.
+const SUMS: usize = 508;
+
+/// What the checker prints.
+#[derive(Clone, Copy, Debug, PartialEq, Eq)]
+pub enum Report {
+    /// Refusal number and whole blocks before the one at fault.
+    Refused { number: u32, blocks: u64 },
+    /// Records judged, records opened by the rules, and the block and record
+    /// place of a difference.
+    Judged {
+        records: u64,
+        opened: u64,
+        differs: Option<(u64, u64)>,
+    },
+}
+
+impl fmt::Display for Report {
+    fn fmt(&self, f: &mut fmt::Formatter<'_>) -> fmt::Result {
+        match self {
+            Report::Refused { number, blocks } => writeln!(f, "refused {number} {blocks}"),
+            Report::Judged {
+                records,
+                opened,
+                differs,
+            } => {
+                writeln!(f, "records {records}")?;
+                writeln!(f, "opened {opened}")?;
+                match differs {
+                    None => writeln!(f, "agrees"),
+                    Some((block, record)) => writeln!(f, "differs {block} {record}"),
+                }
+            }
+        }
+    }
+}
+
+/// One record of the log.
+#[derive(Clone, Copy, Debug, Default, PartialEq, Eq)]
+pub struct Record {
+    pub tick: u64,
+    pub wait: u64,
+    pub row: u16,
+    pub bank: u8,
+    pub thread: u8,
+    /// 0 request, 1 done.
+    pub kind: u8,
+    /// 0 opened or done, 1 bank, 2 rank, 3 row, 4 quota.
+    pub answer: u8,
+}
+
+impl Record {
+    fn read(bytes: &[u8]) -> Self {
+        Record {
+            tick: number(&bytes[0..8]),
+            wait: number(&bytes[8..16]),
+            row: number(&bytes[16..18]) as u16,
+            bank: bytes[18],
+            thread: bytes[19],
+            kind: bytes[20],
+            answer: bytes[21],
+        }
+    }
+
+    fn write(&self) -> [u8; RECORD] {
+        let mut bytes = [0; RECORD];
+        bytes[0..8].copy_from_slice(&self.tick.to_le_bytes());
+        bytes[8..16].copy_from_slice(&self.wait.to_le_bytes());
+        bytes[16..18].copy_from_slice(&self.row.to_le_bytes());
+        bytes[18..22].copy_from_slice(&[self.bank, self.thread, self.kind, self.answer]);
+        bytes
+    }
+}
+
+/// A little-endian number of up to eight bytes.
+fn number(bytes: &[u8]) -> u64 {
+    bytes
+        .iter()
+        .rev()
+        .fold(0, |value, &byte| value << 8 | u64::from(byte))
+}
+
+/// The two sums over bytes 0 to 507, modulo 65,521.
+fn sums(block: &[u8]) -> [u64; 2] {
+    let mut sums = [0, 0];
+    for (place, &byte) in block[..SUMS].iter().enumerate() {
+        sums[0] += u64::from(byte);
+        sums[1] += (place as u64 + 1) * u64::from(byte);
+    }
+    sums.map(|sum| sum % 65_521)
+}
+
+/// Refusals 11, 12 and 13 of a whole block; `previous` is the record count of
+/// the block before it.
+fn sound(block: &[u8], index: u64, previous: usize) -> Result<(), u32> {
+    if block.len() < BLOCK {
+        return Err(11);
+    }
+    if [number(&block[508..510]), number(&block[510..512])] != sums(block) {
+        return Err(12);
+    }
+    let laid_out = number(&block[0..4]) == index
+        && zeros(&block[5..8])
+        && if index == 0 {
+            sound_setting(block)
+        } else {
+            sound_records(block)
+        };
+    let after_short = index > 1 && previous < RECORDS;
+    if !laid_out || after_short {
+        return Err(13);
+    }
+    Ok(())
+}
+
+/// Block 0: count 0, and zeros after the nine numbers and 64 seeds.
+fn sound_setting(block: &[u8]) -> bool {
+    block[4] == 0 && zeros(&block[BODY + 9 * 4 + 64 * 2..SUMS])
+}
+
+/// Later blocks: 1 to 20 sound records, and zeros after.
+fn sound_records(block: &[u8]) -> bool {
+    let count = usize::from(block[4]);
+    (1..=RECORDS).contains(&count)
+        && records(block).all(|bytes| bytes[20] <= 1 && bytes[21] <= 4 && zeros(&bytes[22..24]))
+        && zeros(&block[BODY + count * RECORD..SUMS])
+}
+
+fn zeros(bytes: &[u8]) -> bool {
+    bytes.iter().all(|&byte| byte == 0)
+}
+
+/// The records of a block, as many as its count says.
+fn records(block: &[u8]) -> impl Iterator<Item = &[u8]> {
+    block[BODY..SUMS]
+        .chunks_exact(RECORD)
+        .take(usize::from(block[4]))
+}
+
+/// The run of a log: the setting, the throttle's memory, and the counts.
+struct Run {
+    setting: [u64; 9],
+    seeds: Vec<u16>,
+    fault: Fault,
+    state: State,
+    records: u64,
+    opened: u64,
+}
+
+impl Run {
+    /// Reads the setting of block 0 and sets the throttle up.
+    fn start(block: &[u8], fault: Fault) -> Result<Self, u32> {
+        let setting = std::array::from_fn(|k| number(&block[BODY + 4 * k..BODY + 4 * k + 4]));
+        let words = block[BODY + 9 * 4..].chunks_exact(2).take(64);
+        let seeds: Vec<u16> = words.map(|word| number(word) as u16).collect();
+        let config = Config {
+            setting,
+            seeds: &seeds,
+            fault,
+        };
+        let mut state = State::cleared(&accept(&config)?);
+        match setup(&config, &mut state) {
+            0 => Ok(Run {
+                setting,
+                seeds,
+                fault,
+                state,
+                records: 0,
+                opened: 0,
+            }),
+            number => Err(number),
+        }
+    }
+
+    /// Runs one record; true if the rules answer as it says.
+    fn judge(&mut self, record: &Record) -> Result<bool, u32> {
+        let config = Config {
+            setting: self.setting,
+            seeds: &self.seeds,
+            fault: self.fault,
+        };
+        let (bank, thread) = (u64::from(record.bank), u64::from(record.thread));
+        let mut out = [0, 0];
+        let refusal = match record.kind {
+            0 => {
+                let row = record.row;
+                request(
+                    &config,
+                    &mut self.state,
+                    record.tick,
+                    bank,
+                    thread,
+                    row,
+                    &mut out,
+                )
+            }
+            _ => done(&config, &mut self.state, record.tick, bank, thread),
+        };
+        if refusal != 0 {
+            return Err(refusal);
+        }
+        self.records += 1;
+        if record.kind == 0 && out[0] == OPENED {
+            self.opened += 1;
+        }
+        Ok(out == [u64::from(record.answer), record.wait])
+    }
+
+    /// Runs a block's records up to the first that differs; its place from 1.
+    fn judge_block(&mut self, block: &[u8]) -> Result<Option<u64>, u32> {
+        for (place, bytes) in (1..).zip(records(block)) {
+            if !self.judge(&Record::read(bytes))? {
+                return Ok(Some(place));
+            }
+        }
+        Ok(None)
+    }
+
+    fn report(&self, differs: Option<(u64, u64)>) -> Report {
+        Report::Judged {
+            records: self.records,
+            opened: self.opened,
+            differs,
+        }
+    }
+}
+
+/// Checks a log, block after block, up to the first event.
+pub fn check(log: &[u8], fault: Fault) -> Report {
+    let refused = |number, blocks| Report::Refused { number, blocks };
+    let mut blocks = (0..).zip(log.chunks(BLOCK));
+    let Some((_, first)) = blocks.next() else {
+        return refused(11, 0);
+    };
+    let started = sound(first, 0, 0).and_then(|()| Run::start(first, fault));
+    let mut run = match started {
+        Ok(run) => run,
+        Err(number) => return refused(number, 0),
+    };
+    let mut previous = 0;
+    for (index, block) in blocks {
+        match sound(block, index, previous).and_then(|()| run.judge_block(block)) {
+            Err(number) => return refused(number, index),
+            Ok(Some(place)) => return run.report(Some((index, place))),
+            Ok(None) => previous = usize::from(block[4]),
+        }
+    }
+    run.report(None)
+}
+
+/// Writes the two sums of a block.
+pub fn seal(block: &mut [u8]) {
+    let [plain, weighted] = sums(block).map(|sum| (sum as u16).to_le_bytes());
+    block[508..510].copy_from_slice(&plain);
+    block[510..512].copy_from_slice(&weighted);
+}
+
+/// A sealed block with this number, record count and body.
+fn block(index: u32, count: u8, body: &[u8]) -> [u8; BLOCK] {
+    let mut block = [0; BLOCK];
+    block[0..4].copy_from_slice(&index.to_le_bytes());
+    block[4] = count;
+    block[BODY..BODY + body.len()].copy_from_slice(body);
+    seal(&mut block);
+    block
+}
+
+/// A log of this setting, its numbers cut to 32 bits, with up to 64 seeds and
+/// these records.
+pub fn encode(setting: &[u64; 9], seeds: &[u16], records: &[Record]) -> Vec<u8> {
+    let mut body = Vec::new();
+    for &field in setting {
+        body.extend((field as u32).to_le_bytes());
+    }
+    for &seed in seeds.iter().take(64) {
+        body.extend(seed.to_le_bytes());
+    }
+    let mut log = block(0, 0, &body).to_vec();
+    for (index, chunk) in (1..).zip(records.chunks(RECORDS)) {
+        let body: Vec<u8> = chunk.iter().flat_map(Record::write).collect();
+        log.extend(block(index, chunk.len() as u8, &body));
+    }
+    log
+}

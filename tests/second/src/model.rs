@@ -1,0 +1,164 @@
+//! The four calls of the throttle: set-up, request, done and index. Each
+//! returns 0 when answered, else the number of the refusal, and then changes
+//! nothing.
+
+use crate::clock::move_clock;
+use crate::decision::{count, decide, index_counter, open, quota};
+use crate::decision::{Call, OPENED, QUOTA, WAIT_BANK, WAIT_ROW};
+use crate::fault::Fault;
+use crate::setting::{accept, Config, Rules};
+use crate::state::{thread_cell, State, IN_FLIGHT, LAST};
+
+/// Set-up: clears the used parts of the lent memory and the head.
+pub fn setup(config: &Config, state: &mut State) -> u32 {
+    let rules = match accept(config) {
+        Ok(rules) => rules,
+        Err(number) => return number,
+    };
+    if state.too_short(&rules) {
+        return 6;
+    }
+    state.clear(&rules);
+    0
+}
+
+/// Request a row; `out` becomes the answer's number and the wait tick.
+pub fn request(
+    config: &Config,
+    state: &mut State,
+    tick: u64,
+    bank: u64,
+    thread: u64,
+    row: u16,
+    out: &mut [u64; 2],
+) -> u32 {
+    let (rules, call) = match enter(config, state, tick, bank, thread) {
+        Ok(entered) => entered,
+        Err(number) => {
+            if config.fault == Fault::CountsRefused && number == 9 {
+                count_refused(config, state, bank, row);
+            }
+            return number;
+        }
+    };
+    let before = rules.has(Fault::WaitKeepsClock).then(|| state.clone());
+    let last = state.head[LAST];
+    move_clock(&rules, state, &call);
+    let (answer, wait) = decide(&rules, state, &call, row);
+    if answer == OPENED {
+        open(&rules, state, &call, row, last);
+    } else if counts_held(&rules, answer) {
+        count(&rules, state, call.bank, row);
+    }
+    *out = [answer, wait];
+    if let (Some(before), WAIT_BANK..=WAIT_ROW) = (before, answer) {
+        *state = before;
+    }
+    0
+}
+
+/// Report a request done: takes 1 from in flight.
+pub fn done(config: &Config, state: &mut State, tick: u64, bank: u64, thread: u64) -> u32 {
+    let (rules, call) = match enter(config, state, tick, bank, thread) {
+        Ok(entered) => entered,
+        Err(number) => return number,
+    };
+    let cell = thread_cell(&rules, call.bank, call.thread) + IN_FLIGHT;
+    if state.threads[cell] == 0 {
+        if rules.has(Fault::RefusedDoneMovesClock) {
+            move_clock(&rules, state, &call);
+        }
+        return 10;
+    }
+    move_clock(&rules, state, &call);
+    state.threads[cell] = state.threads[cell].saturating_sub(1); // 0 only by a fault
+    0
+}
+
+/// Read a thread's index; `out` becomes c, D and the quota.
+pub fn index(
+    config: &Config,
+    state: &mut State,
+    tick: u64,
+    bank: u64,
+    thread: u64,
+    out: &mut [u64; 3],
+) -> u32 {
+    let (rules, call) = match enter(config, state, tick, bank, thread) {
+        Ok(entered) => entered,
+        Err(number) => return number,
+    };
+    let before = rules.has(Fault::IndexKeepsClock).then(|| state.clone());
+    move_clock(&rules, state, &call);
+    let c = index_counter(&rules, state, &call);
+    let shown = if rules.has(Fault::IndexClipped) {
+        c.min(rules.d)
+    } else {
+        c
+    };
+    *out = [shown, rules.d, quota(&rules, c)];
+    if let Some(before) = before {
+        *state = before;
+    }
+    0
+}
+
+/// Refusals 1 to 9 in their order.
+fn enter<'a>(
+    config: &Config<'a>,
+    state: &State,
+    tick: u64,
+    bank: u64,
+    thread: u64,
+) -> Result<(Rules<'a>, Call), u32> {
+    let rules = accept(config)?;
+    if state.too_short(&rules) {
+        return Err(6);
+    }
+    let outside = bank >= rules.banks as u64 || thread >= rules.threads as u64;
+    if rules.has(Fault::EightBeforeSeven) && outside {
+        return Err(8);
+    }
+    if state.unsound(&rules) {
+        return Err(7);
+    }
+    if outside {
+        return Err(8);
+    }
+    if tick_refused(&rules, state, tick) {
+        return Err(9);
+    }
+    Ok((
+        rules,
+        Call {
+            tick,
+            bank: bank as usize,
+            thread: thread as usize,
+        },
+    ))
+}
+
+/// Refusal 9: tick before the last one, or 2^62 or more.
+fn tick_refused(rules: &Rules, state: &State, tick: u64) -> bool {
+    let limit = 1 << 62;
+    if rules.has(Fault::TickLimitTaken) && tick == limit {
+        return tick < state.head[LAST];
+    }
+    if rules.has(Fault::EqualTickRefused) && tick != 0 && tick == state.head[LAST] {
+        return true;
+    }
+    tick < state.head[LAST] || tick >= limit
+}
+
+/// Is a request held back with this answer counted (only as a fault)?
+fn counts_held(rules: &Rules, answer: u64) -> bool {
+    rules.has(Fault::CountsQuota) && answer == QUOTA
+        || rules.has(Fault::CountsWaits) && (WAIT_BANK..=WAIT_ROW).contains(&answer)
+}
+
+/// Counts a request although it was refused (only as a fault).
+fn count_refused(config: &Config, state: &mut State, bank: u64, row: u16) {
+    if let Ok(rules) = accept(config) {
+        count(&rules, state, bank as usize, row);
+    }
+}

@@ -1,0 +1,149 @@
+//! The setting of the throttle: its nine numbers and 64 seeds, the numbers
+//! derived from it (history length H, row bound B) and refusals 1 to 5.
+
+use crate::fault::Fault;
+
+/// The setting as the calling program hands it over: W, tRC, tFAW, N, tD, L,
+/// Q, banks, threads, and the seeds, function by function, bit 0 first.
+#[derive(Clone, Copy, Debug)]
+pub struct Config<'a> {
+    pub setting: [u64; 9],
+    pub seeds: &'a [u16],
+    pub fault: Fault,
+}
+
+impl<'a> Config<'a> {
+    /// The plain specification on this setting.
+    pub fn new(setting: [u64; 9], seeds: &'a [u16]) -> Self {
+        Config {
+            setting,
+            seeds,
+            fault: Fault::None,
+        }
+    }
+
+    /// The same setting with a fault switched on.
+    pub fn with(self, fault: Fault) -> Self {
+        Config { fault, ..self }
+    }
+}
+
+/// An accepted setting, its fields by name, with the derived numbers.
+#[derive(Clone, Copy, Debug)]
+pub struct Rules<'a> {
+    /// Least gap of activations in one bank.
+    pub trc: u64,
+    /// Ticks in which the rank takes at most four activations.
+    pub tfaw: u64,
+    /// Blacklisting threshold.
+    pub n: u64,
+    /// Delay of a blacklisted row.
+    pub td: u64,
+    /// Most requests in flight for a thread in a bank.
+    pub q: u64,
+    pub banks: usize,
+    pub threads: usize,
+    /// Epoch E = W/2.
+    pub epoch: u64,
+    /// History length H.
+    pub h: usize,
+    /// Top of the index counters, D = L - N.
+    pub d: u64,
+    pub seeds: &'a [u16],
+    pub fault: Fault,
+}
+
+impl Rules<'_> {
+    /// Is this wrong behaviour switched on?
+    pub fn has(&self, fault: Fault) -> bool {
+        self.fault == fault
+    }
+}
+
+/// Function f, bit i: (37(i+1)^2 + 211f + 89if) mod 1,024.
+pub fn house_seeds() -> Vec<u16> {
+    let word = |f: u16, i: u16| (37 * (i + 1) * (i + 1) + 211 * f + 89 * i * f) % 1024;
+    (0..4)
+        .flat_map(|f| (0..16).map(move |i| word(f, i)))
+        .collect()
+}
+
+/// H = 4 * ceil(tD/tFAW); none where tFAW is 0.
+pub fn history_length(config: &Config) -> Option<u128> {
+    let [_, _, tfaw, _, td, ..] = config.setting.map(u128::from);
+    if tfaw == 0 {
+        return None;
+    }
+    if config.fault == Fault::HistoryPaperLength {
+        return Some((4 * td).div_ceil(tfaw));
+    }
+    Some(4 * td.div_ceil(tfaw))
+}
+
+/// 2 * N * tRC, or none where 128 bits do not hold it.
+fn free_ticks(config: &Config) -> Option<u128> {
+    let [_, trc, _, n, ..] = config.setting.map(u128::from);
+    n.checked_mul(trc)?.checked_mul(2)
+}
+
+/// B = 2N + 1 + floor((W - 1 - 2 * N * tRC)/tD); none where the difference is
+/// negative or tD is 0.
+pub fn row_bound(config: &Config) -> Option<u128> {
+    let [w, _, _, n, td, ..] = config.setting.map(u128::from);
+    let free = free_ticks(config)?;
+    if config.fault == Fault::BoundCountsN {
+        let rest = w.checked_sub(1)?.checked_sub(free / 2)?;
+        return Some(n + 1 + rest.checked_div(td)?);
+    }
+    let rest = w.checked_sub(1)?.checked_sub(free)?;
+    Some(2 * n + 1 + rest.checked_div(td)?)
+}
+
+/// Every field in its range, and 64 seeds of 0 to 1,023.
+fn in_range(config: &Config) -> bool {
+    let [w, trc, tfaw, n, td, l, q, banks, threads] = config.setting;
+    (2..=1 << 30).contains(&w)
+        && w % 2 == 0
+        && (1..=65_535).contains(&trc)
+        && (1..=65_535).contains(&tfaw)
+        && (1..=32_768).contains(&n)
+        && (1..=1 << 29).contains(&td)
+        && (1..=1 << 24).contains(&l)
+        && (1..=255).contains(&q)
+        && (1..=16).contains(&banks)
+        && (1..=32).contains(&threads)
+        && config.seeds.len() == 64
+        && config.seeds.iter().all(|&seed| seed <= 1023)
+}
+
+/// The accepted setting, or the number of its refusal, 1 to 5.
+pub fn accept<'a>(config: &Config<'a>) -> Result<Rules<'a>, u32> {
+    let [w, trc, tfaw, n, td, l, q, banks, threads] = config.setting;
+    if !in_range(config) {
+        return Err(1);
+    }
+    if free_ticks(config).is_none_or(|free| u128::from(w - 1) < free) {
+        return Err(2);
+    }
+    if td < trc || td > w / 2 {
+        return Err(3);
+    }
+    let h = history_length(config).filter(|&h| h <= 4096).ok_or(4u32)?;
+    if row_bound(config).is_none_or(|bound| bound > u128::from(l)) {
+        return Err(5);
+    }
+    Ok(Rules {
+        trc,
+        tfaw,
+        n,
+        td,
+        q,
+        banks: banks as usize,
+        threads: threads as usize,
+        epoch: w / 2,
+        h: h as usize,
+        d: l - n,
+        seeds: config.seeds,
+        fault: config.fault,
+    })
+}

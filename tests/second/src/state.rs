@@ -1,0 +1,119 @@
+//! The memory the throttle works on: the state head and the four lent
+//! buffers, with the refusals about them (6 and 7).
+
+use crate::fault::Fault;
+use crate::setting::Rules;
+
+/// Head cell of the last tick, stored as it is.
+pub const LAST: usize = 0;
+/// Head cell of the next history place.
+pub const PLACE: usize = 1;
+/// First of 16 head cells: each bank's last activation, stored plus one.
+pub const BANK: usize = 2;
+/// First of four head cells: the rank's last activations, newest first.
+pub const RANK: usize = 18;
+
+/// Offset of in flight among the three cells of a thread in a bank; 0 and 1
+/// are its index counters of filter 0 and 1.
+pub const IN_FLIGHT: usize = 2;
+
+/// The state head and the lent buffers. Kept ticks are stored plus one, and 0
+/// means none.
+#[derive(Clone, Debug, PartialEq, Eq)]
+pub struct State {
+    pub head: [u64; 22],
+    /// [bank * 2048 + filter * 1024 + place]
+    pub counters: Vec<u16>,
+    /// History buffer: stored ticks.
+    pub ticks: Vec<u64>,
+    /// History buffer: bank * 65,536 + row.
+    pub rows: Vec<u32>,
+    /// [(bank * threads + thread) * 3 + k]
+    pub threads: Vec<u32>,
+}
+
+impl State {
+    /// Cleared memory, exactly as long as this setting uses.
+    pub fn cleared(rules: &Rules) -> Self {
+        State {
+            head: [0; 22],
+            counters: vec![0; counters_used(rules)],
+            ticks: vec![0; rules.h],
+            rows: vec![0; rules.h],
+            threads: vec![0; threads_used(rules)],
+        }
+    }
+
+    /// Clears the used parts and the head.
+    pub fn clear(&mut self, rules: &Rules) {
+        self.head = [0; 22];
+        self.counters[..counters_used(rules)].fill(0);
+        self.ticks[..rules.h].fill(0);
+        self.rows[..rules.h].fill(0);
+        self.threads[..threads_used(rules)].fill(0);
+    }
+
+    /// Refusal 6: a buffer too short.
+    pub fn too_short(&self, rules: &Rules) -> bool {
+        self.counters.len() < counters_used(rules)
+            || self.ticks.len() < rules.h
+            || self.rows.len() < rules.h
+            || self.threads.len() < threads_used(rules)
+    }
+
+    /// Refusal 7: a history place of H or more, a kept tick after the last
+    /// tick, or stored history ticks that rise when read back.
+    pub fn unsound(&self, rules: &Rules) -> bool {
+        self.head[PLACE] >= rules.h as u64 || self.kept_after_last(rules) || self.rises(rules)
+    }
+
+    /// Is a kept tick of a bank, of the rank or of the history after the last?
+    fn kept_after_last(&self, rules: &Rules) -> bool {
+        let banks = if rules.has(Fault::LooksAtForeignBanks) {
+            16
+        } else {
+            rules.banks
+        };
+        let last = self.head[LAST];
+        let after = |&stored: &u64| {
+            if rules.has(Fault::KeptTickOffByOne) {
+                return stored > last;
+            }
+            stored != 0 && stored - 1 > last
+        };
+        self.head[BANK..BANK + banks].iter().any(after)
+            || self.head[RANK..RANK + 4].iter().any(after)
+            || self.ticks[..rules.h].iter().any(after)
+    }
+
+    /// Do the stored history ticks rise anywhere, read from the newest place
+    /// back? Needs a history place below H.
+    fn rises(&self, rules: &Rules) -> bool {
+        let place = self.head[PLACE] as usize;
+        let back = |age: usize| self.ticks[(place + 2 * rules.h - 1 - age) % rules.h];
+        let pairs = if rules.has(Fault::WrapPairIsRise) {
+            rules.h
+        } else {
+            rules.h - 1
+        };
+        (0..pairs).any(|age| {
+            let (newer, older) = (back(age), back(age + 1));
+            older > newer || rules.has(Fault::EqualIsRise) && newer != 0 && older == newer
+        })
+    }
+}
+
+/// Filter counters in use: two filters of 1,024 for each bank.
+fn counters_used(rules: &Rules) -> usize {
+    rules.banks * 2 * 1024
+}
+
+/// Thread counters in use: three for each bank and thread.
+fn threads_used(rules: &Rules) -> usize {
+    rules.banks * rules.threads * 3
+}
+
+/// First of the three cells of a thread in a bank.
+pub fn thread_cell(rules: &Rules, bank: usize, thread: usize) -> usize {
+    (bank * rules.threads + thread) * 3
+}

@@ -1,0 +1,224 @@
+//! Every wrong behaviour that can be switched on shows in a campaign of small
+//! runs, on memory set up and on memory of any contents.
+
+use second::setting::{accept, history_length, house_seeds, row_bound};
+use second::{done, index, request, setup, Config, Fault, State};
+
+/// Xorshift numbers, the same on every run.
+struct Numbers(u64);
+
+impl Numbers {
+    /// A number from low to high.
+    fn within(&mut self, low: u64, high: u64) -> u64 {
+        self.0 ^= self.0 << 13;
+        self.0 ^= self.0 >> 7;
+        self.0 ^= self.0 << 17;
+        low + (self.0 >> 11) % (high - low + 1)
+    }
+
+    fn one_in(&mut self, many: u64) -> bool {
+        self.within(1, many) == 1
+    }
+}
+
+/// One call of a run.
+#[derive(Clone, Copy)]
+struct Call {
+    kind: u64,
+    tick: u64,
+    bank: u64,
+    thread: u64,
+    row: u16,
+}
+
+/// A setting, the memory it starts from and the calls.
+struct Run {
+    setting: [u64; 9],
+    seeds: Vec<u16>,
+    state: State,
+    calls: Vec<Call>,
+}
+
+/// A small setting, accepted or short of its row bound.
+fn setting(numbers: &mut Numbers) -> [u64; 9] {
+    let trc = numbers.within(1, 3);
+    let n = numbers.within(1, 3);
+    let w = 2 * (n * trc + numbers.within(4, 20));
+    let td = numbers.within(trc, w / 2);
+    let tfaw = numbers.within(1, 9);
+    let q = numbers.within(1, 5);
+    let (banks, threads) = (numbers.within(1, 3), numbers.within(1, 2));
+    let mut setting = [w, trc, tfaw, n, td, 1, q, banks, threads];
+    let bound = row_bound(&Config::new(setting, &[])).unwrap() as u64;
+    let spare = numbers.within(0, 8);
+    setting[5] = if spare == 8 { bound - 1 } else { bound + spare };
+    setting
+}
+
+/// Memory just long enough for a setting, accepted or not.
+fn fresh(setting: &[u64; 9]) -> State {
+    let h = history_length(&Config::new(*setting, &[])).unwrap() as usize;
+    let (banks, threads) = (setting[7] as usize, setting[8] as usize);
+    State {
+        head: [0; 22],
+        counters: vec![0; banks * 2048],
+        ticks: vec![0; h],
+        rows: vec![0; h],
+        threads: vec![0; banks * threads * 3],
+    }
+}
+
+/// Fills memory with contents that are mostly sound.
+fn fill(numbers: &mut Numbers, setting: &[u64; 9], state: &mut State) {
+    let last = state.head[0];
+    let h = state.ticks.len() as u64;
+    let mut near = |many| match numbers.within(0, many) {
+        0 => last + 2,
+        1 => last + 1,
+        2 => 0,
+        k => (last + 1).saturating_sub(k / 2),
+    };
+    for cell in 2..22 {
+        state.head[cell] = near(40);
+    }
+    let mut ticks: Vec<u64> = (0..h).map(|_| near(300)).collect();
+    ticks.sort_unstable();
+    let top = if numbers.one_in(9) { h } else { h - 1 };
+    state.head[1] = numbers.within(0, top);
+    ticks.rotate_right((state.head[1] % h) as usize);
+    state.ticks = ticks;
+    for word in &mut state.rows {
+        *word = (numbers.within(0, setting[7]) * 65_536 + numbers.within(0, 2)) as u32;
+    }
+    for cell in &mut state.counters {
+        *cell = numbers.within(0, setting[3] + 2) as u16;
+    }
+    for cell in &mut state.threads {
+        let top = if numbers.one_in(5) { 20 } else { 1 };
+        *cell = numbers.within(0, top) as u32;
+    }
+}
+
+/// The calls of a run from a first tick on.
+fn calls(numbers: &mut Numbers, setting: &[u64; 9], mut tick: u64) -> Vec<Call> {
+    let mut call = || {
+        tick = match numbers.within(0, 11) {
+            0..=4 => tick,
+            5..=8 => tick + 1,
+            9 => tick + numbers.within(1, setting[4]),
+            10 => (tick / (setting[0] / 2) + numbers.within(1, 3)) * (setting[0] / 2),
+            _ => tick.saturating_sub(numbers.within(0, 1)),
+        };
+        let outside = u64::from(numbers.one_in(20));
+        Call {
+            kind: numbers.within(0, 5),
+            tick,
+            bank: numbers.within(0, setting[7] - 1 + outside),
+            thread: numbers.within(0, setting[8] - 1),
+            row: numbers.within(0, 2) as u16,
+        }
+    };
+    (0..40).map(|_| call()).collect()
+}
+
+fn run(seed: u64) -> Run {
+    let numbers = &mut Numbers(seed.wrapping_mul(0x9E37_79B9_7F4A_7C15) | 1);
+    let setting = setting(numbers);
+    let mut seeds = house_seeds();
+    if numbers.one_in(3) {
+        seeds.iter_mut().for_each(|seed| *seed %= 4);
+    }
+    let mut state = fresh(&setting);
+    if numbers.one_in(2) {
+        state.head[0] = numbers.within(0, 200);
+        fill(numbers, &setting, &mut state);
+    } else if numbers.one_in(8) {
+        state.head[0] = (1 << 62) - numbers.within(1, 20);
+    }
+    let calls = calls(numbers, &setting, state.head[0]);
+    Run {
+        setting,
+        seeds,
+        state,
+        calls,
+    }
+}
+
+/// What a call returns and writes: the refusal and the cells of `out`.
+fn answer(config: &Config, state: &mut State, call: &Call) -> (u32, [u64; 3]) {
+    let Call {
+        tick,
+        bank,
+        thread,
+        row,
+        ..
+    } = *call;
+    let (mut two, mut three) = ([7; 2], [7; 3]);
+    let number = match call.kind {
+        0 => done(config, state, tick, bank, thread),
+        1 => index(config, state, tick, bank, thread, &mut three),
+        _ => request(config, state, tick, bank, thread, row, &mut two),
+    };
+    if call.kind > 1 {
+        three[..2].copy_from_slice(&two);
+    }
+    (number, three)
+}
+
+/// Does a run go another way with the fault switched on?
+fn shows(run: &Run, fault: Fault) -> bool {
+    let plain = Config::new(run.setting, &run.seeds);
+    let faulty = plain.with(fault);
+    let (mut right, mut wrong) = (run.state.clone(), run.state.clone());
+    run.calls.iter().any(|call| {
+        let answers = (
+            answer(&plain, &mut right, call),
+            answer(&faulty, &mut wrong, call),
+        );
+        answers.0 != answers.1 || right != wrong
+    })
+}
+
+#[test]
+fn every_fault_shows() {
+    assert!(Fault::ALL.len() >= 22);
+    assert_eq!(Fault::default(), Fault::None);
+    for &fault in Fault::ALL {
+        let found = (1..2000).any(|seed| shows(&run(seed), fault));
+        assert!(found, "{fault:?} does not show");
+    }
+}
+
+#[test]
+fn plain_runs_are_repeatable_and_refusals_change_nothing() {
+    for seed in 1..200 {
+        let run = run(seed);
+        assert!(!shows(&run, Fault::None));
+        let config = Config::new(run.setting, &run.seeds);
+        let mut state = run.state.clone();
+        for call in &run.calls {
+            let before = state.clone();
+            let (number, out) = answer(&config, &mut state, call);
+            assert!(number == 0 || state == before && out == [7; 3]);
+        }
+    }
+}
+
+#[test]
+fn most_runs_are_answered() {
+    let mut answered = [0; 3];
+    for seed in 1..300 {
+        let run = run(seed);
+        let config = Config::new(run.setting, &run.seeds);
+        let mut state = run.state.clone();
+        assert_eq!(
+            accept(&config).is_ok(),
+            setup(&config, &mut state.clone()) == 0
+        );
+        for call in &run.calls {
+            let (number, _) = answer(&config, &mut state, call);
+            answered[call.kind.min(2) as usize] += u32::from(number == 0);
+        }
+    }
+    assert!(answered.iter().all(|&count| count > 300), "{answered:?}");
+}
