@@ -8,12 +8,12 @@ use native.Mathlib.Omega.{arith}
 use native.Mathlib.Decide.{decLt, ℕ-discrete}
 use native.Mathlib.Nat.{le-refl, le-trans}
 use lib.Dec.{T, leb, ltb, eqb, leb→le, le→leb, lt→ltb, nleb→lt, eqb→eq, eqb-refl, T-not, not-T}
-use lib.ListN.{length, getD, set, take, drop, length-set}
-use lib.Seq.{getD-set-same, getD-set-other, getD-take}
+use lib.ListN.{length, getD, set, drop, length-set}
+use lib.Seq.{getD-set-same, getD-set-other}
 use Rattle.rules.specs.declared.Setting.{Setting}
 use Rattle.rules.specs.Cells.{ceilDiv, more, All}
 use Rattle.rules.specs.Setting.{Limits, historyLength}
-use Rattle.rules.specs.State.{State, counterCell, rowWord}
+use Rattle.rules.specs.State.{State, counterCell, rowWord, cells}
 use Rattle.rules.specs.Clock.{epoch, activeFilter}
 use Rattle.rules.specs.Hash.{places}
 use Rattle.rules.specs.Filter.{estimate, blacklisted, counted}
@@ -21,6 +21,7 @@ use Rattle.rules.specs.History.{nextPlace, back, matches, rowFree}
 use Rattle.rules.specs.Decision.{passed, bankRule, rankRule, activeEstimate, rowRule, activatedHead, activated}
 use Rattle.rules.specs.Calls.{Activation, ofRow}
 use Rattle.rules.proofs.Tests.{or-e}
+use Rattle.rules.proofs.Cells.{getD-first}
 use Rattle.rules.proofs.Counting.{all-map}
 use Rattle.rules.proofs.Places.{place-lt}
 use Rattle.rules.proofs.Accept.{Accepted, ceil-cover}
@@ -165,13 +166,13 @@ module _ (m : Limits) (s : Setting) (seeds : List ℕ) (ok : Accepted m s seeds)
       bank-past b′ h (yes e) = rw (e, here) (le-refl (t + 1))
       bank-past b′ h (no e) = rw (getD-set-other (st .head .bank) b b′ (t + 1) 0 e) (i .bankPast b′ h)
 
-      rank-last : (j : ℕ) → j < 4 → All (λ x. stored x ≤ getD ((t + 1) ∷ take 3 (st .head .rank)) j 0) (drop j (new ∷ tr))
+      rank-last : (j : ℕ) → j < 4 → All (λ x. stored x ≤ getD ((t + 1) ∷ cells (st .head .rank) 0 3) j 0) (drop j (new ∷ tr))
       rank-last zero h = (le-refl (t + 1), all-map (λ x k. omega arith) tr (i .latest))
-      rank-last (suc j) h = rw (getD-take 3 (st .head .rank) j 0 (omega arith)) (i .rankLast j (omega arith))
+      rank-last (suc j) h = rw (getD-first (st .head .rank) 3 j (omega arith)) (i .rankLast j (omega arith))
 
-      rank-past : (j : ℕ) → j < 4 → getD ((t + 1) ∷ take 3 (st .head .rank)) j 0 ≤ t + 1
+      rank-past : (j : ℕ) → j < 4 → getD ((t + 1) ∷ cells (st .head .rank) 0 3) j 0 ≤ t + 1
       rank-past zero h = le-refl (t + 1)
-      rank-past (suc j) h = rw (getD-take 3 (st .head .rank) j 0 (omega arith)) (i .rankPast j (omega arith))
+      rank-past (suc j) h = rw (getD-first (st .head .rank) 3 j (omega arith)) (i .rankPast j (omega arith))
 
       shifted : (j : ℕ) → j < H
           → (getD (set (st .ticks) (st .head .next) (t + 1)) (back H (nextPlace H (st .head .next)) j) 0 ≡ getD (map stored (new ∷ tr)) j 0)

@@ -9,6 +9,7 @@ use lib.Dec.{T}
 use lib.ListN.{length, getD}
 use lib.Seq.{ext-getD}
 use Rattle.rules.specs.Cells.{mapFrom, mapCells, clearCells, All}
+use Rattle.rules.specs.State.{cells}
 use Rattle.rules.proofs.Tests.{cond-yes, cond-no}
 
 pub length-mapFrom : (f : ℕ → ℕ → ℕ) (i : ℕ) (cs : List ℕ) → length (mapFrom f i cs) ≡ length cs
@@ -60,3 +61,14 @@ map-same f h cs = sym (is-mapCells f cs cs refl (λ j k. sym (h j (getD cs j 0))
 pub all-mapFrom : (P : ℕ → Type 0) (f : ℕ → ℕ → ℕ) → ((i c : ℕ) → P c → P (f i c)) → (i : ℕ) (cs : List ℕ) → All P cs → All P (mapFrom f i cs)
 all-mapFrom P f h i [] a = tt
 all-mapFrom P f h i (c ∷ cs) a = (h i c (a .0), all-mapFrom P f h (suc i) cs (a .1))
+
+-- a cell of the n cells from i on
+getD-cells : (l : List ℕ) (i n k : ℕ) → k < n → getD (cells l i n) k 0 ≡ getD l (i + k) 0
+getD-cells l i zero k h = absurd (omega arith)
+getD-cells l i (suc n) zero h = ap (λ x. getD l x 0) (sym (add-zero i))
+getD-cells l i (suc n) (suc k) h =
+    let e : suc i + k ≡ i + suc k = omega arith in
+    getD-cells l (suc i) n k (omega arith) ∙ ap (λ x. getD l x 0) e
+
+pub getD-first : (l : List ℕ) (n k : ℕ) → k < n → getD (cells l 0 n) k 0 ≡ getD l k 0
+getD-first l n k h = getD-cells l 0 n k h ∙ ap (λ x. getD l x 0) (zero-add k)

@@ -7,8 +7,8 @@ use native.Mathlib.Omega.{arith}
 use native.Mathlib.Nat.{add-zero, div-le-of-le-mul}
 use native.Mathlib.Decide.{decLt, ℕ-discrete}
 use lib.Dec.{T, ltb, ltb→lt, lit<}
-use lib.ListN.{length, getD, set, take, replicate, List·getD-eq-default}
-use lib.Seq.{getD-set-same, getD-set-other, getD-take, set-out}
+use lib.ListN.{length, getD, set, replicate, List·getD-eq-default}
+use lib.Seq.{getD-set-same, getD-set-other, set-out}
 use Rattle.rules.specs.declared.Setting.{Setting}
 use Rattle.rules.specs.declared.Head.{Head}
 use Rattle.rules.specs.declared.Answer.{Answer}
@@ -23,7 +23,7 @@ use Rattle.rules.specs.Quota.{document01, limits01, quotaDown, inFlightH
 use Rattle.rules.specs.Decision.{quotaRule, decide, activatedHead, activatedThreads, activated}
 use Rattle.rules.specs.Calls.{Call, request, done, index, Outcome, callRefusal, doneRefusal, afterAnswer, requested, reported, indexShown, step, after}
 use Rattle.rules.specs.Claims.{Fits, Stored, RowFits, StepFits, RunFits}
-use Rattle.rules.proofs.Cells.{all-mapFrom}
+use Rattle.rules.proofs.Cells.{all-mapFrom, getD-first}
 use Rattle.rules.proofs.Accept.{Taken, taken, done-taken}
 use Rattle.rules.proofs.Ring.{next-lt}
 use Rattle.rules.proofs.Filter.{raised-lt, counted-fits}
@@ -127,9 +127,9 @@ activated-words m h d b w nh hm lm =
       rank = rank;
     }
   where
-    rank : (j : ℕ) → j < 4 → getD ((d .last + 1) ∷ take 3 (d .rank)) j 0 < m
+    rank : (j : ℕ) → j < 4 → getD ((d .last + 1) ∷ cells (d .rank) 0 3) j 0 < m
     rank zero k = lm
-    rank (suc j) k = rw (getD-take 3 (d .rank) j 0 (omega arith)) (w .rank j (omega arith))
+    rank (suc j) k = rw (getD-first (d .rank) 3 j (omega arith)) (w .rank j (omega arith))
 
 -- ---- one call
 

@@ -8,13 +8,13 @@ use native.Mathlib.Omega.{arith}
 use native.Mathlib.Decide.{decLt, ℕ-discrete}
 use native.Mathlib.Nat.{le-refl}
 use lib.Dec.{T, leb, ltb, eqb, leb→le, le→leb, ltb→lt, lt→ltb, eqb→eq}
-use lib.ListN.{length, getD, set, take, replicate, length-set, getD-replicate}
-use lib.Seq.{getD-set-same, getD-set-other, getD-take, set-out}
+use lib.ListN.{length, getD, set, replicate, length-set, getD-replicate}
+use lib.Seq.{getD-set-same, getD-set-other, set-out}
 use Rattle.rules.specs.declared.Setting.{Setting}
 use Rattle.rules.specs.declared.Head.{Head}
 use Rattle.rules.specs.Cells.{every, clearCells}
 use Rattle.rules.specs.Setting.{historyLength}
-use Rattle.rules.specs.State.{State, countersUsed, threadsUsed, threadCell, freshHead, fresh}
+use Rattle.rules.specs.State.{State, countersUsed, threadsUsed, threadCell, cells, freshHead, fresh}
 use Rattle.rules.specs.Clock.{turnedThreads, movedHead, turned}
 use Rattle.rules.specs.History.{nextPlace, back, notAfter, neverRises, memoryOk}
 use Rattle.rules.specs.Filter.{raised}
@@ -22,7 +22,7 @@ use Rattle.rules.specs.Quota.{Policy}
 use Rattle.rules.specs.Decision.{activatedHead, activatedThreads, activated}
 use Rattle.rules.specs.Calls.{reported}
 use Rattle.rules.proofs.Tests.{and-i, and-l, and-r, or-l, or-r, or-e, every-at, every-all}
-use Rattle.rules.proofs.Cells.{length-mapCells, clear-zero}
+use Rattle.rules.proofs.Cells.{length-mapCells, clear-zero, getD-first}
 use Rattle.rules.proofs.Accept.{Long, Taken}
 use Rattle.rules.proofs.Ring.{next-lt, back-lt, back-first, back-next, back-other, falls-one}
 use Rattle.rules.proofs.Filter.{length-counted}
@@ -202,9 +202,9 @@ activated-memory s at st b th r l m =
       steady = push-steady (historyLength s) (st .head .next) (st .head .last + 1) (st .ticks) (m .inRing) (l .ticks) (m .history) (m .steady);
     }
   where
-    rank : (k : ℕ) → k < 4 → getD ((st .head .last + 1) ∷ take 3 (st .head .rank)) k 0 ≤ st .head .last + 1
+    rank : (k : ℕ) → k < 4 → getD ((st .head .last + 1) ∷ cells (st .head .rank) 0 3) k 0 ≤ st .head .last + 1
     rank zero h = le-refl (st .head .last + 1)
-    rank (suc k) h = rw (getD-take 3 (st .head .rank) k 0 (omega arith)) (m .rank k (omega arith))
+    rank (suc k) h = rw (getD-first (st .head .rank) 3 k (omega arith)) (m .rank k (omega arith))
 
 length-activatedThreads : (s : Setting) (ts : List ℕ) (b th : ℕ) (black : Bool) → length (activatedThreads s ts b th black) ≡ length ts
 unfolding activatedThreads

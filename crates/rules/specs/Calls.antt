@@ -78,6 +78,10 @@ afterAnswer Opened before opened = opened
 afterAnswer (Wait c u) before opened = before
 afterAnswer Quota before opened = before
 
+-- set-up: "Set-up clears the used parts and the head"
+unfoldable pub setup : Policy → Setting → List ℕ → State → Outcome
+setup p s seeds st = unlessRefused (setupRefusal p s seeds st) st (record { reply = finished; state = fresh s st })
+
 -- a request on the state turned to its tick; at f gives the row's places in filter f
 unfoldable pub requested : Policy → Setting → (ℕ → List ℕ) → State → ℕ → ℕ → ℕ → Outcome
 requested p s at st bank thread row =

@@ -3,7 +3,7 @@ use mathlib.Core.List.{List, [], _∷_}
 use mathlib.Core.Bool.{Bool, true, false, not, _&&_, _||_, cond}
 use Prim.Native.Nat.{ℕ, suc, _+_, _-_}
 use lib.Dec.{leb, ltb, eqb}
-use lib.ListN.{getD, set, take}
+use lib.ListN.{getD, set}
 use Rattle.rules.specs.declared.Setting.{Setting}
 use Rattle.rules.specs.declared.Head.{Head}
 use Rattle.rules.specs.declared.Cause.the-variants.{Bank, Rank, Row}
@@ -11,7 +11,7 @@ use Rattle.rules.specs.declared.Answer.{Answer}
 use Rattle.rules.specs.declared.Answer.the-variants.{Opened, Wait, Quota}
 use Rattle.rules.specs.Cells.{leastFrom}
 use Rattle.rules.specs.Setting.{historyLength, indexScale}
-use Rattle.rules.specs.State.{State, threadCell, rowWord}
+use Rattle.rules.specs.State.{State, threadCell, rowWord, cells}
 use Rattle.rules.specs.Clock.{activeFilter, turned}
 use Rattle.rules.specs.Filter.{estimate, blacklisted, raised, counted}
 use Rattle.rules.specs.History.{nextPlace, rowFree}
@@ -73,7 +73,7 @@ activatedHead h d bank =
       last = d .last;
       next = nextPlace h (d .next);
       bank = set (d .bank) bank (d .last + 1);
-      rank = (d .last + 1) ∷ take 3 (d .rank);
+      rank = (d .last + 1) ∷ cells (d .rank) 0 3;
     }
 
 -- One more in flight; both index counters "count openings of rows blacklisted when opened, up to D".

@@ -1,0 +1,12 @@
+-- `Head::moved` sets the clock and keeps the rest.
+use mathlib.Core.Path.{refl}
+use Rattle.rules.specs.Clock.{movedHead}
+use Rattle.rules.proofs.Head.moved.Statement.{statement}
+use Rattle.rules.proofs.Head.moved.Tie as tie
+
+returns : tie.Need-returns
+unfolding movedHead
+returns c = refl
+
+pub moved-spec : {M : Type 1} → statement M
+moved-spec = tie.close (tie.spec returns)

@@ -1,0 +1,23 @@
+-- `next_place` is the place after another in the ring.
+use borrow.Author.Needs.{needs}
+use borrow.Author.Tests.{eq-eqb, ne-eqb}
+use Rattle.rules.specs.History.{nextPlace}
+use Rattle.rules.proofs.next_place.Statement.{statement}
+use Rattle.rules.proofs.next_place.Tie as tie
+
+add-if1 : tie.Need-add-if1
+add-if1 c = search needs
+
+add-result : tie.Need-add-result
+add-result c = search needs
+
+returns : tie.Need-returns
+unfolding nextPlace
+returns c = simp (eq-eqb _ _ (c .if1 .taken))
+
+returns-2 : tie.Need-returns-2
+unfolding nextPlace
+returns-2 c = simp (ne-eqb _ _ (c .if1 .left))
+
+pub next-place-spec : {M : Type 1} → statement M
+next-place-spec = tie.close (tie.spec add-if1 add-result returns returns-2)
