@@ -1,5 +1,6 @@
 pub mod Tests
 pub mod Cells
+pub mod Clearing
 pub mod Places
 pub mod Accept
 pub mod Ring

@@ -1,0 +1,4 @@
+pub mod Runs
+pub mod Search
+pub mod Found
+pub mod Searchable

@@ -1,0 +1,170 @@
+-- The test of the stored ticks by the straight runs of the ring, and a run's test by or-ed differences.
+use mathlib.Core.Path.{_≡_, sym, _∙_}
+use mathlib.Core.Logic.{_⊎_, inl, inr}
+use mathlib.Core.List.{List}
+use mathlib.Core.Bool.{Bool, true, false, not, _&&_}
+use Prim.Native.Nat.{ℕ, suc, _+_, _-_, _%_, _^_, _≤_, _<_}
+use native.Mathlib.Omega.{arith}
+use native.Mathlib.Numerals.{add-one}
+use native.Mathlib.Nat.{lt-of-le-of-lt, mod-eq-of-lt}
+use native.Mathlib.Decide.{decLt, ℕ-discrete}
+use lib.Dec.{T, leb, eqb, leb→le, le→leb, eqb→eq, not-T, T-not}
+use lib.Bits.{bitOr, or-add-and, and-le-r, or-comm}
+use lib.ListN.{getD}
+use borrow.Author.Tests.{not-true, not-false}
+use Rattle.rules.specs.Cells.{every}
+use Rattle.rules.specs.History.{back, notAfter, neverRises}
+use Rattle.rules.proofs.Tests.{and-i, and-l, and-r, or-r, or-e, is-false, holds, fails, every-at, every-all}
+use Rattle.rules.proofs.Ring.{back-new, back-old, back-lt, back-back, falls-one, falls}
+use Rattle.history.specs.Runs.{neverFalls}
+
+-- a test that does not hold, as an equation
+pub rejected : (b : Bool) → (T b → ⊥) → false ≡ b
+rejected b h = sym (is-false b (not-T b h))
+
+-- a test whose part a, computed as r, does not hold
+pub rejected-by : (r a b : Bool) → r ≡ a → not r ≡ true → (T b → T a) → false ≡ b
+rejected-by r a b e n f = rejected b (λ t. T-not a (fails a (sym e ∙ not-true r n)) (f t))
+
+-- a test that was computed as r and holds
+pub passed : (r a : Bool) → r ≡ a → not r ≡ false → T a
+passed r a e n = holds a (sym e ∙ not-false r n)
+
+-- ---- a stored tick against the last tick
+
+pub after→le : (last stored : ℕ) → T (notAfter last stored) → stored ≤ last + 1
+after→le last stored h = go (or-e (eqb stored 0) (leb (stored - 1) last) h)
+  where
+    go : T (eqb stored 0) ⊎ T (leb (stored - 1) last) → stored ≤ last + 1
+    go (inl e) = omega (arith, eqb→eq stored 0 e)
+    go (inr l) = omega (arith, leb→le (stored - 1) last l)
+
+pub le→after : (last stored : ℕ) → stored ≤ last + 1 → T (notAfter last stored)
+le→after last stored h = or-r (eqb stored 0) (leb (stored - 1) last) (le→leb (stored - 1) last (omega arith))
+
+-- ---- a run
+
+pub run-none : (ticks : List ℕ) (i : ℕ) → T (neverFalls ticks i 0)
+unfolding neverFalls
+run-none ticks i = tt
+
+pub run-more : (ticks : List ℕ) (i k : ℕ) → T (neverFalls ticks i k) → getD ticks (i + k) 0 ≤ getD ticks (i + k + 1) 0 → T (neverFalls ticks i (k + 1))
+unfolding neverFalls
+run-more ticks i k t h =
+    rw (add-one k)
+    (and-i (every k (λ j. leb (getD ticks (i + j) 0) (getD ticks (i + j + 1) 0))) (leb (getD ticks (i + k) 0) (getD ticks (i + k + 1) 0)) t
+    (le→leb (getD ticks (i + k) 0) (getD ticks (i + k + 1) 0) h))
+
+pub run-at : (ticks : List ℕ) (i n k : ℕ) → T (neverFalls ticks i n) → k < n → getD ticks (i + k) 0 ≤ getD ticks (i + k + 1) 0
+unfolding neverFalls
+run-at ticks i n k t h =
+    leb→le (getD ticks (i + k) 0) (getD ticks (i + k + 1) 0)
+    (every-at n (λ j. leb (getD ticks (i + j) 0) (getD ticks (i + j + 1) 0)) t k h)
+
+pub run-all : (ticks : List ℕ) (i n : ℕ) → ((k : ℕ) → k < n → getD ticks (i + k) 0 ≤ getD ticks (i + k + 1) 0) → T (neverFalls ticks i n)
+unfolding neverFalls
+run-all ticks i n f =
+    every-all n (λ j. leb (getD ticks (i + j) 0) (getD ticks (i + j + 1) 0))
+    (λ k h. le→leb (getD ticks (i + k) 0) (getD ticks (i + k + 1) 0) (f k h))
+
+-- ---- or-ed differences
+
+or-below : (a b : ℕ) → a ≤ bitOr a b
+or-below a b = omega (arith, or-add-and a b, and-le-r a b)
+
+-- both parts of an or are below a bound that the or is below
+or-parts : (a b n : ℕ) → bitOr a b < n → (a < n) × (b < n)
+or-parts a b n h = (lt-of-le-of-lt (or-below a b) h, lt-of-le-of-lt (or-below b a) (rw or-comm h))
+
+-- where neither number reaches half the word, the difference did not wrap
+exact : (d older newer half : ℕ) → (d + older) % (half + half) ≡ newer → d < half → older < half → older ≤ newer
+exact d older newer half e p q =
+    let z : (d + older) % (half + half) ≡ d + older = mod-eq-of-lt (omega arith) in
+    omega arith
+
+-- one cell more: `all` is the or so far, d the difference that was added to it
+pub quick-more : (ticks : List ℕ) (i k all d : ℕ) → (all < 2 ^ 63 → T (neverFalls ticks i k))
+    → (d + getD ticks (i + k) 0) % 2 ^ 64 ≡ getD ticks (i + k + 1) 0
+    → bitOr (bitOr all (getD ticks (i + k) 0)) d < 2 ^ 63 → T (neverFalls ticks i (k + 1))
+quick-more ticks i k all d f e h =
+    let o = or-parts (bitOr all (getD ticks (i + k) 0)) d (2 ^ 63) h in
+    let q = or-parts all (getD ticks (i + k) 0) (2 ^ 63) (o .0) in
+    run-more ticks i k (f (q .0)) (exact d (getD ticks (i + k) 0) (getD ticks (i + k + 1) 0) (2 ^ 63) e (o .1) (q .1))
+
+-- ---- the ring by its runs
+
+-- the pair i and i + 1 steps back lies in the run from p on
+in-high : (h p i : ℕ) → p ≤ i → suc i < h → h - 2 - i < h - 1 - p
+in-high h p i a b = omega arith
+
+-- the stored ticks pass the test
+abbrev pub tested : List ℕ → ℕ → ℕ → ℕ → Bool
+tested ticks h p last = every h (λ q. notAfter last (getD ticks q 0)) && neverRises h p ticks
+
+module _ (ticks : List ℕ) (h p last : ℕ) (ph : p < h) where
+  none-after : T (tested ticks h p last) → (q : ℕ) → q < h → T (notAfter last (getD ticks q 0))
+  none-after s q qh =
+      every-at h (λ q. notAfter last (getD ticks q 0)) (and-l (every h (λ q. notAfter last (getD ticks q 0))) (neverRises h p ticks) s) q qh
+
+  -- the place i + 1 steps back, named, holds no greater tick than the place i steps back, named
+  step : T (tested ticks h p last) → (i old new : ℕ) → suc i < h → back h p (suc i) ≡ old → back h p i ≡ new → getD ticks old 0 ≤ getD ticks new 0
+  step s i old new ih eo en =
+      rw (eo, en) at (falls-one h p ticks (and-r (every h (λ q. notAfter last (getD ticks q 0))) (neverRises h p ticks) s) i ih)
+
+  pub steady-newest : T (tested ticks h p last) → T (notAfter last (getD ticks (back h p 0) 0))
+  steady-newest s = none-after s (back h p 0) (back-lt h p ph 0 (omega arith))
+
+  pub steady-wrap : T (tested ticks h p last) → 0 < p → getD ticks (h - 1) 0 ≤ getD ticks 0 0
+  steady-wrap s z =
+      step s (p - 1) (h - 1) 0 (omega arith)
+      (back-old h p ph (suc (p - 1)) (omega arith) ∙ omega arith)
+      (back-new h p ph (p - 1) (omega arith) ∙ omega arith)
+
+  pub steady-low : T (tested ticks h p last) → T (neverFalls ticks 0 (p - 1))
+  steady-low s =
+      run-all ticks 0 (p - 1)
+      (λ k kh.
+      step s (p - 2 - k) (0 + k) (0 + k + 1) (omega arith)
+      (back-new h p ph (suc (p - 2 - k)) (omega arith) ∙ omega arith)
+      (back-new h p ph (p - 2 - k) (omega arith) ∙ omega arith))
+
+  pub steady-high : T (tested ticks h p last) → T (neverFalls ticks p (h - 1 - p))
+  steady-high s =
+      run-all ticks p (h - 1 - p)
+      (λ k kh.
+      step s (h - 2 - k) (p + k) (p + k + 1) (omega arith)
+      (back-old h p ph (suc (h - 2 - k)) (omega arith) ∙ omega arith)
+      (back-old h p ph (h - 2 - k) (omega arith) ∙ omega arith))
+
+  -- the two runs and the pair across the wrap make the whole ring
+  falls-all : (0 < p → (getD ticks (h - 1) 0 ≤ getD ticks 0 0) × T (neverFalls ticks 0 (p - 1))) → T (neverFalls ticks p (h - 1 - p)) → T (neverRises h p ticks)
+  unfolding neverRises
+  falls-all low high = every-all (h - 1) (λ i. leb (getD ticks (back h p (suc i)) 0) (getD ticks (back h p i) 0)) (λ i ih. le→leb (getD ticks (back h p (suc i)) 0) (getD ticks (back h p i) 0) (go i (omega arith) (decLt (suc i) p) (ℕ-discrete (suc i) p)))
+    where
+      go : (i : ℕ) → suc i < h → Dec (suc i < p) → Dec (suc i ≡ p) → getD ticks (back h p (suc i)) 0 ≤ getD ticks (back h p i) 0
+      go i ih (yes l) e =
+          let old : p - 1 - suc i ≡ 0 + (p - 2 - i) = omega arith in
+          let new : p - 1 - i ≡ 0 + (p - 2 - i) + 1 = omega arith in
+          rw (back-new h p ph (suc i) l, back-new h p ph i (omega arith), old, new) (run-at ticks 0 (p - 1) (p - 2 - i) (low (omega arith) .1) (omega arith))
+      go i ih (no l) (yes e) =
+          let old : p + h - 1 - suc i ≡ h - 1 = omega arith in
+          let new : p - 1 - i ≡ 0 = omega arith in
+          rw (back-old h p ph (suc i) (omega arith), back-new h p ph i (omega arith), old, new) (low (omega arith) .0)
+      go i ih (no l) (no e) =
+          let old : p + h - 1 - suc i ≡ p + (h - 2 - i) = omega arith in
+          let new : p + h - 1 - i ≡ p + (h - 2 - i) + 1 = omega arith in
+          rw (back-old h p ph (suc i) (omega arith), back-old h p ph i (omega arith), old, new) (run-at ticks p (h - 1 - p) (h - 2 - i) high (in-high h p i (omega arith) ih))
+
+  -- where none rises, the newest tick is the greatest
+  pub steady-all : T (notAfter last (getD ticks (back h p 0) 0))
+      → (0 < p → (getD ticks (h - 1) 0 ≤ getD ticks 0 0) × T (neverFalls ticks 0 (p - 1)))
+      → T (neverFalls ticks p (h - 1 - p)) → T (tested ticks h p last)
+  steady-all new low high =
+      let f = falls-all low high in
+      and-i (every h (λ q. notAfter last (getD ticks q 0))) (neverRises h p ticks) (every-all h (λ q. notAfter last (getD ticks q 0)) (λ q qh. one f q qh)) f
+    where
+      one : T (neverRises h p ticks) → (q : ℕ) → q < h → T (notAfter last (getD ticks q 0))
+      one f q qh =
+          let g = falls h p ticks f 0 (back h p q) (omega (arith, back-lt h p ph q qh)) in
+          let z : 0 + back h p q ≡ back h p q = omega arith in
+          le→after last (getD ticks q 0) (omega (arith, rw (z, back-back h p ph q qh) at g, after→le last (getD ticks (back h p 0) 0) new))

@@ -1,0 +1,68 @@
+-- `quota::clear_kind`. The loop's invariant: the cells of the kind in the groups passed are 0 and the others are as they were.
+use Prim.Native.Nat.{_-_, _≤_}
+use mathlib.Core.Path.{_≡_, refl}
+use native.Mathlib.Omega.{arith}
+use lib.ListN.{length, length-set}
+use Rattle.rules.specs.Cells.{clearCells}
+use Rattle.quota.specs.Kinds.{kindBelow}
+use Rattle.quota.proofs.Turns.{kind-none, kind-more}
+use borrow.Author.Needs.{needs}
+use Rattle.quota.proofs.clear_kind.Statement.{statement}
+use Rattle.quota.proofs.clear_kind.Tie as tie
+
+abbrev Inv-loop : tie.InvT-loop
+Inv-loop threads₀ kind groups i₀ threads i = (i ≤ groups) × (length threads ≡ length threads₀) × (threads ≡ clearCells (kindBelow kind i) threads₀)
+
+abbrev μ-loop : tie.MeasureT-loop
+μ-loop threads₀ kind groups i₀ threads i = groups - i
+
+loop-holds : tie.Need-loop-holds Inv-loop μ-loop
+loop-holds c = (omega arith, refl, kind-none (c .args .kind) (c .args .threads .now))
+
+mul-threads : tie.Need-mul-threads Inv-loop μ-loop
+mul-threads c = search needs
+
+add-threads : tie.Need-add-threads Inv-loop μ-loop
+add-threads c = search needs
+
+mul-threads-2 : tie.Need-mul-threads-2 Inv-loop μ-loop
+mul-threads-2 c = search needs
+
+slice-write-threads : tie.Need-slice-write-threads Inv-loop μ-loop
+slice-write-threads c = search needs
+
+add-i : tie.Need-add-i Inv-loop μ-loop
+add-i c = search needs
+
+loop-less : tie.Need-loop-less Inv-loop μ-loop
+loop-less c = search needs
+
+loop-again : tie.Need-loop-again Inv-loop μ-loop
+loop-again c =
+    let l = c .before .loop in
+    (omega arith, simp length-set (l .inv .1), rw (l .inv .2) (kind-more (c .before .before .args .threads .now) (c .before .before .args .kind) (l .i) (search needs) (omega arith)))
+
+same-length : tie.Need-same-length Inv-loop μ-loop
+same-length c = search needs
+
+returns : tie.Need-returns Inv-loop μ-loop
+returns c =
+    let z : c .before .loop .i ≡ c .before .before .args .groups = omega arith in
+    rw z at (c .before .loop .inv .2)
+
+pub clear-kind-spec : {M : Type 1} → statement M
+clear-kind-spec =
+    tie.close
+    (tie.spec
+    Inv-loop
+    μ-loop
+    loop-holds
+    mul-threads
+    add-threads
+    mul-threads-2
+    slice-write-threads
+    add-i
+    loop-less
+    loop-again
+    same-length
+    returns)

@@ -1,0 +1,50 @@
+-- `quota::quota`: the product fits 32 bits, and the quotient is the definition's and at most Q.
+use mathlib.Core.Path.{_∙_}
+use native.Mathlib.Omega.{arith}
+use Rattle.rules.specs.Setting.{indexScale}
+use Rattle.quota.proofs.Index.{share-small, share-le, quota-is}
+use borrow.Author.Needs.{needs}
+use Rattle.quota.proofs.quota.Statement.{statement}
+use Rattle.quota.proofs.quota.Tie as tie
+
+sub-scale : tie.Need-sub-scale
+sub-scale c = search needs
+
+cast-scale : tie.Need-cast-scale
+cast-scale c = search needs
+
+remaining-requires : tie.Need-remaining-requires
+remaining-requires c κs = search needs
+
+cast-share : tie.Need-cast-share
+cast-share c = search needs
+
+mul-share : tie.Need-mul-share
+mul-share c = omega (arith, share-small (c .before .before .before .args .s .q) (c .before .remaining .result) (search needs) (omega arith))
+
+floor-div-requires : tie.Need-floor-div-requires
+floor-div-requires c κs = (omega arith, omega arith, share-small (c .before .before .before .args .s .q) (c .before .remaining .result) (search needs) (omega arith))
+
+cast-result : tie.Need-cast-result
+cast-result c = search needs
+
+returns : tie.Need-returns
+returns c =
+    let s = c .before .before .before .before .args .s in
+    let left = c .before .before .remaining .result in (
+      c .floor-div .ensures ∙ quota-is s (c .before .before .before .before .args .c) left (c .before .before .remaining .ensures .0),
+      omega (arith, share-le (s .q) left (indexScale s) (c .before .before .remaining .ensures .1)),
+    )
+
+pub quota-spec : {M : Type 1} → statement M
+quota-spec =
+    tie.close
+    (tie.spec
+    sub-scale
+    cast-scale
+    remaining-requires
+    cast-share
+    mul-share
+    floor-div-requires
+    cast-result
+    returns)

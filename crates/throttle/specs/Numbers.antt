@@ -1,0 +1,58 @@
+-- The decision from numbers alone: what the code reads of a state, and what it decides from that.
+use Prim.Native.Nat.{ℕ, _+_, _-_, _*_, _%_, max}
+use mathlib.Core.List.{List}
+use mathlib.Core.Bool.{Bool, _&&_, _||_, cond}
+use lib.Dec.{ltb, leb, eqb}
+use lib.ListN.{getD}
+use Rattle.rules.specs.declared.Setting.{Setting}
+use Rattle.rules.specs.declared.Answer.{Answer}
+use Rattle.rules.specs.Setting.{epochLength, historyLength}
+use Rattle.rules.specs.State.{State, rowWord}
+use Rattle.rules.specs.Clock.{epoch, activeFilter}
+use Rattle.rules.specs.Filter.{estimate}
+use Rattle.rules.specs.History.{find}
+use Rattle.rules.specs.Quota.{quotaDown, inFlightHere, indexCounter}
+use Rattle.rules.specs.Decision.{passed, activeEstimate, firstFailing}
+use Rattle.rules.specs.Claims.{gapEnd, closedTick}
+use Rattle.throttle.specs.declared.decision.View.{View}
+
+-- the first tick from t on that bank and rank rules allow
+unfoldable pub gapsEnd : Setting → ℕ → View → ℕ
+gapsEnd s t v = max t (max (gapEnd (s .trc) (v .bank)) (gapEnd (s .tfaw) (v .rank)))
+
+-- the wait tick, by its closed form
+unfoldable pub waitFrom : Setting → ℕ → View → ℕ
+waitFrom s t v = closedTick (s .n) (v .end) (gapsEnd s t v) (v .delay) (v .active) (v .other)
+
+-- the decision at tick t
+unfoldable pub decideFrom : Setting → ℕ → View → Answer
+decideFrom s t v =
+    firstFailing (ltb (v .flying) (v .quota)) (passed (s .trc) (v .bank) t) (passed (s .tfaw) (v .rank) t)
+    (ltb (v .active) (s .n) || leb (v .delay) t) (waitFrom s t v)
+
+-- the tick from which the history is free of the row, 0 where no place matches
+unfoldable pub delayEnd : Setting → State → ℕ → ℕ → ℕ
+delayEnd s st bank row =
+    let place = find (historyLength s) (s .td) (st .head .next) (st .ticks) (st .rows) (rowWord bank row) (st .head .last) in
+    cond (eqb place (historyLength s)) 0 (getD (st .ticks) place 0 - 1 + s .td)
+
+-- the filter that the next epoch tests
+abbrev pub passiveFilter : Setting → ℕ → ℕ
+passiveFilter s t = (epoch s t + 1) % 2
+
+-- What the decision looks at. The history is searched only for a row that one of the filters blacklists.
+unfoldable pub viewOf : Setting → List ℕ → State → ℕ → ℕ → ℕ → View
+viewOf s at st bank thread row =
+    let t = st .head .last in
+    let active = estimate (st .counters) bank (activeFilter s t) at in
+    let other = estimate (st .counters) bank (passiveFilter s t) at in
+    record {
+      flying = inFlightHere s (st .threads) bank thread;
+      quota = quotaDown s (indexCounter s (st .threads) bank thread (activeFilter s t));
+      bank = getD (st .head .bank) bank 0;
+      rank = getD (st .head .rank) 3 0;
+      active = active;
+      other = other;
+      delay = cond (ltb active (s .n) && ltb other (s .n)) 0 (delayEnd s st bank row);
+      end = (epoch s t + 1) * epochLength s;
+    }

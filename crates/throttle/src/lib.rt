@@ -1,0 +1,3 @@
+// The throttle: set-up, request, done and index for C, proved against the rules.
+mod decision;
+mod words;

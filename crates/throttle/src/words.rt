@@ -1,0 +1,100 @@
+// How the head lies in the caller's 22 words, and the numbers of the answers.
+use rules::Answer;
+use rules::Cause;
+use rules::Head;
+ghost use mathlib.Core.Path.{_≡_};
+ghost use Rattle.rules.specs.State.{headOf, headWords};
+ghost use Rattle.rules.specs.Answers.{causeNumber, answerNumber, answerWait};
+
+// The head that the 22 words of the caller hold.
+pub fn load_head(words: &[u64; 22]) -> Head
+    ensures { λ r. ⌜ r ≡ headOf (now (words .entry)) ⌝ }
+{
+    Head {
+        last: words[0],
+        next: words[1],
+        bank: [
+            words[2],
+            words[3],
+            words[4],
+            words[5],
+            words[6],
+            words[7],
+            words[8],
+            words[9],
+            words[10],
+            words[11],
+            words[12],
+            words[13],
+            words[14],
+            words[15],
+            words[16],
+            words[17],
+        ],
+        rank: [words[18], words[19], words[20], words[21]],
+    }
+}
+
+// Stores the head in the caller's 22 words.
+pub fn store_head(h: Head, words: &mut [u64; 22])
+    ensures { λ _. ⌜ now (words .exit) ≡ headWords h ⌝ }
+{
+    let b = h.bank;
+    let r = h.rank;
+    *words = [
+        h.last,
+        h.next,
+        b[0],
+        b[1],
+        b[2],
+        b[3],
+        b[4],
+        b[5],
+        b[6],
+        b[7],
+        b[8],
+        b[9],
+        b[10],
+        b[11],
+        b[12],
+        b[13],
+        b[14],
+        b[15],
+        r[0],
+        r[1],
+        r[2],
+        r[3],
+    ];
+}
+
+fn cause_number(c: Cause) -> u64
+    ensures { λ r. ⌜ r ≡ causeNumber c ⌝ }
+{
+    match c {
+        Cause::Bank => 1,
+        Cause::Rank => 2,
+        Cause::Row => 3,
+    }
+}
+
+// The number of an answer, as in a log.
+pub fn answer_number(a: Answer) -> u64
+    ensures { λ r. ⌜ r ≡ answerNumber a ⌝ }
+{
+    match a {
+        Answer::Opened => 0,
+        Answer::Wait { cause, until: _ } => cause_number(cause),
+        Answer::Quota => 4,
+    }
+}
+
+// The wait tick of an answer, 0 for opened and quota.
+pub fn answer_wait(a: Answer) -> u64
+    ensures { λ r. ⌜ r ≡ answerWait a ⌝ }
+{
+    match a {
+        Answer::Opened => 0,
+        Answer::Wait { cause: _, until } => until,
+        Answer::Quota => 0,
+    }
+}
