@@ -1,0 +1,123 @@
+-- What an activation adds: the four stores of a filter, and the two filters of a bank, against the rules' `counted`.
+-- All of it is about natural numbers, so it serves counters of every width.
+use mathlib.Core.Path.{_≡_, refl, sym, ap, _∙_}
+use mathlib.Core.Logic.{_⊎_, inl, inr}
+use mathlib.Core.List.{List, [], _∷_, map}
+use mathlib.Core.Bool.{Bool, true, false, _||_, cond}
+use Prim.Native.Nat.{ℕ, _+_, _*_, _≤_, _<_}
+use native.Mathlib.Omega.{arith}
+use lib.Dec.{T, eqb, eqb→eq}
+use lib.ListN.{length, getD, set}
+use borrow.Author.Tests.{lt-ltb, le-ltb, eq-eqb, ne-eqb}
+use Rattle.rules.specs.Cells.{member, All}
+use Rattle.rules.specs.State.{counterCell}
+use Rattle.rules.specs.Filter.{Within, counterAt, raised, named, counted}
+use Rattle.rules.proofs.Tests.{or-e}
+use Rattle.rules.proofs.Cells.{map-same}
+use Rattle.filter.specs.Changes.{raisedAt}
+use Rattle.filter.proofs.Changes.{map-map, store-map}
+
+-- ---- one counter
+
+pub raised-below : (n c : ℕ) → c < n → c + 1 ≡ raised n c
+unfolding raised
+raised-below n c h = rw (lt-ltb c n h)
+
+pub raised-full : (n c : ℕ) → n ≤ c → c ≡ raised n c
+unfolding raised
+raised-full n c h = rw (le-ltb c n h)
+
+-- ---- the counters of a list of cells
+
+raised-none : (n : ℕ) (cs : List ℕ) → raisedAt n [] cs ≡ cs
+unfolding raisedAt
+raised-none n cs = map-same (λ i c. cond (member i []) (raised n c) c) (λ i c. refl) cs
+
+-- one store more, of what the cell held before all stores, with 1 more
+raised-store : (n : ℕ) (at cs : List ℕ) (a v : ℕ) → a < length cs → v ≡ raised n (getD cs a 0) → set (raisedAt n at cs) a v ≡ raisedAt n (a ∷ at) cs
+unfolding raisedAt
+raised-store n at cs a v h e =
+    store-map (λ i c. cond (member i at) (raised n c) c) (λ i c. cond (member i (a ∷ at)) (raised n c) c) cs a v h
+    (rw (eq-eqb a a refl) e) (λ i c p. rw (ne-eqb i a p))
+
+-- four stores, from the last cell to the first
+raised-four : (n : ℕ) (cs : List ℕ) (a0 a1 a2 a3 v0 v1 v2 v3 : ℕ)
+    → a0 < length cs → a1 < length cs → a2 < length cs → a3 < length cs
+    → v0 ≡ raised n (getD cs a0 0) → v1 ≡ raised n (getD cs a1 0) → v2 ≡ raised n (getD cs a2 0) → v3 ≡ raised n (getD cs a3 0)
+    → set (set (set (set cs a3 v3) a2 v2) a1 v1) a0 v0 ≡ raisedAt n (a0 ∷ a1 ∷ a2 ∷ a3 ∷ []) cs
+raised-four n cs a0 a1 a2 a3 v0 v1 v2 v3 h0 h1 h2 h3 e0 e1 e2 e3 =
+    let s3 : set cs a3 v3 ≡ raisedAt n (a3 ∷ []) cs = ap (λ l. set l a3 v3) (sym (raised-none n cs)) ∙ raised-store n [] cs a3 v3 h3 e3 in
+    let s2 : set (set cs a3 v3) a2 v2 ≡ raisedAt n (a2 ∷ a3 ∷ []) cs = ap (λ l. set l a2 v2) s3 ∙ raised-store n (a3 ∷ []) cs a2 v2 h2 e2 in
+    let s1 : set (set (set cs a3 v3) a2 v2) a1 v1 ≡ raisedAt n (a1 ∷ a2 ∷ a3 ∷ []) cs = ap (λ l. set l a1 v1) s2 ∙ raised-store n (a2 ∷ a3 ∷ []) cs a1 v1 h1 e1 in
+    ap (λ l. set l a0 v0) s1 ∙ raised-store n (a1 ∷ a2 ∷ a3 ∷ []) cs a0 v0 h0 e0
+
+-- ---- a row's four cells
+
+-- the cells of a row in filter f of a bank
+four-cells : (bank f : ℕ) (at : List ℕ) → length at ≡ 4
+    → counterCell bank f (getD at 0 0) ∷ counterCell bank f (getD at 1 0) ∷ counterCell bank f (getD at 2 0) ∷ counterCell bank f (getD at 3 0) ∷ [] ≡ map (counterCell bank f) at
+four-cells bank f [] e = absurd (omega arith)
+four-cells bank f (a ∷ []) e = absurd (omega arith)
+four-cells bank f (a ∷ b ∷ []) e = absurd (omega arith)
+four-cells bank f (a ∷ b ∷ c ∷ []) e = absurd (omega arith)
+four-cells bank f (a ∷ b ∷ c ∷ d ∷ []) e = refl
+four-cells bank f (a ∷ b ∷ c ∷ d ∷ x ∷ xs) e = absurd (omega arith)
+
+within-all : (at : List ℕ) → length at ≡ 4 → Within at → All (λ p. p < 1024) at
+within-all [] e w = absurd (omega arith)
+within-all (a ∷ []) e w = absurd (omega arith)
+within-all (a ∷ b ∷ []) e w = absurd (omega arith)
+within-all (a ∷ b ∷ c ∷ []) e w = absurd (omega arith)
+within-all (a ∷ b ∷ c ∷ d ∷ []) e w = (w .first, (w .second, (w .third, (w .fourth, tt))))
+within-all (a ∷ b ∷ c ∷ d ∷ x ∷ xs) e w = absurd (omega arith)
+
+-- the stores of the code, against the row's cells in filter f of a bank
+pub row-raised : (n bank f : ℕ) (at cs : List ℕ) (v0 v1 v2 v3 : ℕ) → length at ≡ 4 → Within at → f < 2 → bank * 2048 + 2048 ≤ length cs
+    → v0 ≡ raised n (counterAt cs bank f at 0) → v1 ≡ raised n (counterAt cs bank f at 1)
+    → v2 ≡ raised n (counterAt cs bank f at 2) → v3 ≡ raised n (counterAt cs bank f at 3)
+    → set (set (set (set cs (counterCell bank f (getD at 3 0)) v3) (counterCell bank f (getD at 2 0)) v2) (counterCell bank f (getD at 1 0)) v1) (counterCell bank f (getD at 0 0)) v0
+    ≡ raisedAt n (map (counterCell bank f) at) cs
+row-raised n bank f at cs v0 v1 v2 v3 four w hf long e0 e1 e2 e3 =
+    let k : ℕ → ℕ = λ j. counterCell bank f (getD at j 0) in
+    raised-four n cs (k 0) (k 1) (k 2) (k 3) v0 v1 v2 v3
+    (omega (arith, w .first)) (omega (arith, w .second)) (omega (arith, w .third)) (omega (arith, w .fourth)) e0 e1 e2 e3
+    ∙ ap (λ l. raisedAt n l cs) (four-cells bank f at four)
+
+-- ---- the two filters of a bank
+
+-- a row's cell in filter f is one of the 1,024 of that filter
+cell-in : (bank f i : ℕ) (at : List ℕ) → All (λ p. p < 1024) at → T (member i (map (counterCell bank f) at))
+    → (counterCell bank f 0 ≤ i) × (i < counterCell bank f 1024)
+cell-in bank f i [] a m = absurd m
+cell-in bank f i (p ∷ at) a m = go (or-e (eqb i (counterCell bank f p)) (member i (map (counterCell bank f) at)) m) (cell-in bank f i at (a .1))
+  where
+    go : T (eqb i (counterCell bank f p)) ⊎ T (member i (map (counterCell bank f) at))
+        → (T (member i (map (counterCell bank f) at)) → (counterCell bank f 0 ≤ i) × (i < counterCell bank f 1024))
+        → (counterCell bank f 0 ≤ i) × (i < counterCell bank f 1024)
+    go (inl e) ih = let k = eqb→eq i (counterCell bank f p) e in let b = a .0 in (omega arith, omega arith)
+    go (inr t) ih = ih t
+
+-- a cell that is in one list at most is raised once at most
+raise-once : (a b : Bool) (n c : ℕ) → (T a → T b → ⊥)
+    → cond b (raised n (cond a (raised n c) c)) (cond a (raised n c) c) ≡ cond (a || b) (raised n c) c
+raise-once true true n c h = absurd (h tt tt)
+raise-once true false n c h = refl
+raise-once false true n c h = refl
+raise-once false false n c h = refl
+
+-- an activation is counted in filter 0 and then in filter 1; at f gives the row's places in filter f
+pub counted-both : (n bank : ℕ) (at : ℕ → List ℕ) (cs : List ℕ) → All (λ p. p < 1024) (at 0) → All (λ p. p < 1024) (at 1)
+    → raisedAt n (map (counterCell bank 1) (at 1)) (raisedAt n (map (counterCell bank 0) (at 0)) cs) ≡ counted n bank at cs
+unfolding raisedAt counted named
+counted-both n bank at cs h0 h1 =
+    let p : ℕ → Bool = λ i. member i (map (counterCell bank 0) (at 0)) in
+    let q : ℕ → Bool = λ i. member i (map (counterCell bank 1) (at 1)) in
+    map-map (λ i c. cond (q i) (raised n c) c) (λ i c. cond (p i) (raised n c) c) (λ i c. cond (p i || q i) (raised n c) c) cs
+    (λ i c. raise-once (p i) (q i) n c (λ x y. let a = cell-in bank 0 i (at 0) h0 x in let b = cell-in bank 1 i (at 1) h1 y in omega arith))
+
+-- the two calls of the code, for a row whose places are the same in both filters
+pub counted-row : (n bank : ℕ) (at cs m z : List ℕ) → length at ≡ 4 → Within at → m ≡ raisedAt n (map (counterCell bank 0) at) cs
+    → z ≡ raisedAt n (map (counterCell bank 1) at) m → z ≡ counted n bank (λ f. at) cs
+counted-row n bank at cs m z four w em ez =
+    let all = within-all at four w in
+    ez ∙ ap (λ l. raisedAt n (map (counterCell bank 1) at) l) em ∙ counted-both n bank (λ f. at) cs all all

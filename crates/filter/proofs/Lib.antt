@@ -1,0 +1,5 @@
+pub mod Changes
+pub mod Parts
+pub mod Counting
+pub mod Clearing
+pub mod Widths

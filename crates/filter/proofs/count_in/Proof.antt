@@ -1,0 +1,148 @@
+-- `filter::count_in` meets its contract: four stores of what the cells held, raised. Args.t4 is the parameter at.
+use native.Mathlib.Omega.{arith}
+use lib.ListN.{length-set}
+use Rattle.filter.proofs.Counting.{row-raised}
+use borrow.Author.Needs.{needs}
+use Rattle.filter.proofs.count_in.Statement.{statement}
+use Rattle.filter.proofs.count_in.Tie as tie
+
+-- the four stores against the rules; what follows are the bounds of sums and indices
+returns : tie.Need-returns
+returns c =
+    let a = c .before .before .before .before .before .before .before .before .before .args in
+    row-raised (a .n) (a .bank) (a .f) (a .t4) (a .counters .now) (c .before .before .before .before .before .before .raise .result) (c .before .before .before .before .raise2 .result) (c .before .before .raise3 .result) (c .raise4 .result)
+    (search needs) (search needs) (search needs) (search needs) (c .before .before .before .before .before .before .raise .ensures) (c .before .before .before .before .raise2 .ensures) (c .before .before .raise3 .ensures) (c .raise4 .ensures)
+
+mul-base : tie.Need-mul-base
+mul-base c = search needs
+
+mul-base-2 : tie.Need-mul-base-2
+mul-base-2 c = search needs
+
+add-base : tie.Need-add-base
+add-base c = search needs
+
+array-read-a0 : tie.Need-array-read-a0
+array-read-a0 c = search needs
+
+add-a0 : tie.Need-add-a0
+add-a0 c = search needs
+
+array-read-a1 : tie.Need-array-read-a1
+array-read-a1 c = search needs
+
+add-a1 : tie.Need-add-a1
+add-a1 c = search needs
+
+array-read-a2 : tie.Need-array-read-a2
+array-read-a2 c = search needs
+
+add-a2 : tie.Need-add-a2
+add-a2 c = search needs
+
+array-read-a3 : tie.Need-array-read-a3
+array-read-a3 c = search needs
+
+add-a3 : tie.Need-add-a3
+add-a3 c = search needs
+
+mul-raise : tie.Need-mul-raise
+mul-raise c = search needs
+
+slice-read-raise : tie.Need-slice-read-raise
+slice-read-raise c = search needs
+
+raise-requires : tie.Need-raise-requires
+raise-requires c κs = search needs
+
+mul-raise-2 : tie.Need-mul-raise-2
+mul-raise-2 c = search needs
+
+slice-read-raise-2 : tie.Need-slice-read-raise-2
+slice-read-raise-2 c = search needs
+
+raise-requires-2 : tie.Need-raise-requires-2
+raise-requires-2 c κs = search needs
+
+mul-raise-3 : tie.Need-mul-raise-3
+mul-raise-3 c = search needs
+
+slice-read-raise-3 : tie.Need-slice-read-raise-3
+slice-read-raise-3 c = search needs
+
+raise-requires-3 : tie.Need-raise-requires-3
+raise-requires-3 c κs = search needs
+
+mul-raise-4 : tie.Need-mul-raise-4
+mul-raise-4 c = search needs
+
+slice-read-raise-4 : tie.Need-slice-read-raise-4
+slice-read-raise-4 c = search needs
+
+raise-requires-4 : tie.Need-raise-requires-4
+raise-requires-4 c κs = search needs
+
+mul-counters : tie.Need-mul-counters
+mul-counters c = search needs
+
+slice-write-counters : tie.Need-slice-write-counters
+slice-write-counters c = search needs
+
+mul-counters-2 : tie.Need-mul-counters-2
+mul-counters-2 c = search needs
+
+slice-write-counters-2 : tie.Need-slice-write-counters-2
+slice-write-counters-2 c = simp length-set (omega arith)
+
+mul-counters-3 : tie.Need-mul-counters-3
+mul-counters-3 c = search needs
+
+slice-write-counters-3 : tie.Need-slice-write-counters-3
+slice-write-counters-3 c = simp length-set (omega arith)
+
+mul-counters-4 : tie.Need-mul-counters-4
+mul-counters-4 c = search needs
+
+slice-write-counters-4 : tie.Need-slice-write-counters-4
+slice-write-counters-4 c = simp length-set (omega arith)
+
+same-length : tie.Need-same-length
+same-length c = search needs
+
+pub count-in-spec : {M : Type 1} → statement M
+count-in-spec =
+    tie.close
+    (tie.spec
+    mul-base
+    mul-base-2
+    add-base
+    array-read-a0
+    add-a0
+    array-read-a1
+    add-a1
+    array-read-a2
+    add-a2
+    array-read-a3
+    add-a3
+    mul-raise
+    slice-read-raise
+    raise-requires
+    mul-raise-2
+    slice-read-raise-2
+    raise-requires-2
+    mul-raise-3
+    slice-read-raise-3
+    raise-requires-3
+    mul-raise-4
+    slice-read-raise-4
+    raise-requires-4
+    mul-counters
+    slice-write-counters
+    mul-counters-2
+    slice-write-counters-2
+    mul-counters-3
+    slice-write-counters-3
+    mul-counters-4
+    slice-write-counters-4
+    same-length
+    returns)

@@ -1,0 +1,23 @@
+-- `filter::raise` meets its contract. The sum fits as it does for counters of every width.
+use Rattle.filter.proofs.Counting.{raised-below, raised-full}
+use Rattle.filter.proofs.Widths.{sum-fits}
+use borrow.Author.Needs.{needs}
+use Rattle.filter.proofs.raise.Statement.{statement}
+use Rattle.filter.proofs.raise.Tie as tie
+
+add-result : tie.Need-add-result
+add-result c = let k = sum-fits 16 (c .before .args .n) (c .before .args .x) (search needs) (c .if1 .taken) in search needs
+
+returns : tie.Need-returns
+returns c = raised-below (c .before .args .n) (c .before .args .x) (c .if1 .taken)
+
+returns-2 : tie.Need-returns-2
+returns-2 c = raised-full (c .before .args .n) (c .before .args .x) (c .if1 .left)
+
+pub raise-spec : {M : Type 1} → statement M
+raise-spec =
+    tie.close
+    (tie.spec
+    add-result
+    returns
+    returns-2)

@@ -1,0 +1,33 @@
+-- `hash::places` meets its contract: the four hashes are the definition's places, and each is below 1,024.
+use Rattle.hash.proofs.Laws.{four-places, within}
+use borrow.Author.Needs.{needs}
+use Rattle.hash.proofs.places.Statement.{statement}
+use Rattle.hash.proofs.places.Tie as tie
+
+hash-requires : tie.Need-hash-requires
+hash-requires c κs = search needs
+
+hash-requires-2 : tie.Need-hash-requires-2
+hash-requires-2 c κs = search needs
+
+hash-requires-3 : tie.Need-hash-requires-3
+hash-requires-3 c κs = search needs
+
+hash-requires-4 : tie.Need-hash-requires-4
+hash-requires-4 c κs = search needs
+
+returns : tie.Need-returns
+returns c =
+    let a = c .before .before .before .before .before .args in
+    let e = four-places (a .seeds .now) (a .row) (c .before .before .before .hash .result) (c .before .before .hash2 .result) (c .before .hash3 .result) (c .hash4 .result) (c .before .before .before .hash .ensures) (c .before .before .hash2 .ensures) (c .before .hash3 .ensures) (c .hash4 .ensures) in
+    (e, within (a .seeds .now) _ (a .row) (c .before .before .before .before .before .pre) e)
+
+pub places-spec : {M : Type 1} → statement M
+places-spec =
+    tie.close
+    (tie.spec
+    hash-requires
+    hash-requires-2
+    hash-requires-3
+    hash-requires-4
+    returns)
