@@ -12,7 +12,7 @@ ghost use Rattle.history.specs.Runs.{neverFalls};
 // ---- the test of the stored ticks
 
 // Whether a stored tick is not after the last tick.
-fn is_not_after(stored: u64, last: u64) -> bool
+pub fn is_not_after(stored: u64, last: u64) -> bool
     ensures { λ r. ⌜ r ≡ notAfter last stored ⌝ }
 {
     if stored == 0 {

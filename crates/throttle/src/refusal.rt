@@ -2,28 +2,16 @@
 use rules::Head;
 use rules::Setting;
 ghost use mathlib.Core.Path.{_≡_};
-ghost use mathlib.Core.Bool.{Bool, true, false, _&&_};
-ghost use Prim.Native.Nat.{ℕ, _+_, _*_, _≤_, _<_, _^_};
+ghost use Prim.Native.Nat.{_≤_};
 ghost use lib.ListN.{length, getD};
 ghost use Rattle.rules.specs.Cells.{every};
-ghost use Rattle.rules.specs.Answers.{refusalNumber};
-ghost use Rattle.rules.specs.Setting.{historyLength};
-ghost use Rattle.rules.specs.State.{tooShort};
-ghost use Rattle.rules.specs.History.{notAfter, memoryOk};
-ghost use Rattle.rules.specs.Quota.{document01};
-ghost use Rattle.rules.specs.Calls.{setupRefusal, callRefusal, doneRefusal};
+ghost use Rattle.rules.specs.Answers.{none, shortBuffer, refusalNumber, refuse, orElse};
+ghost use Rattle.rules.specs.Setting.{historyLength, settingRefusal};
+ghost use Rattle.rules.specs.History.{notAfter};
+ghost use Rattle.rules.specs.Quota.{limits01, document01};
+ghost use Rattle.rules.specs.Calls.{callRefusal};
 ghost use Rattle.throttle.specs.Left.{state};
-ghost use Rattle.throttle.specs.Ready.{Bounds};
-
-// Whether a stored tick is not after the last tick.
-fn is_past(stored: u64, last: u64) -> bool
-    ensures { λ r. ⌜ r ≡ notAfter last stored ⌝ }
-{
-    if stored == 0 {
-        return true;
-    }
-    stored - 1 <= last
-}
+ghost use Rattle.throttle.specs.Tests.{memoryTest, shortTest, placeRefusal};
 
 // Whether no bank of the setting has a stored tick after the last tick.
 fn banks_past(h: Head, banks: u64) -> bool
@@ -33,7 +21,7 @@ fn banks_past(h: Head, banks: u64) -> bool
     let stored = h.bank;
     let mut b: usize = 0;
     while b < banks as usize {
-        if !is_past(stored[b], h.last) {
+        if !history::is_not_after(stored[b], h.last) {
             return false;
         }
         b += 1;
@@ -46,14 +34,132 @@ fn rank_past(h: Head) -> bool
     ensures { λ r. ⌜ r ≡ every 4 (λ k. notAfter (h .last) (getD (h .rank) k 0)) ⌝ }
 {
     let stored = h.rank;
-    if !is_past(stored[0], h.last) {
+    if !history::is_not_after(stored[0], h.last) {
         return false;
     }
-    if !is_past(stored[1], h.last) {
+    if !history::is_not_after(stored[1], h.last) {
         return false;
     }
-    if !is_past(stored[2], h.last) {
+    if !history::is_not_after(stored[2], h.last) {
         return false;
     }
-    is_past(stored[3], h.last)
+    history::is_not_after(stored[3], h.last)
+}
+
+// Refusal 7 does not apply.
+fn memory_ok(s: Setting, h: Head, ticks: &[u64], places: usize) -> bool
+    requires { ⌜ (s .banks ≤ 16) × (places ≡ historyLength s) × (places ≤ length (now ticks)) ⌝ }
+    ensures { λ r. ⌜ r ≡ memoryTest s h (now (ticks .entry)) ⌝ }
+{
+    if places as u64 <= h.next {
+        return false;
+    }
+    if !banks_past(h, s.banks) {
+        return false;
+    }
+    if !rank_past(h) {
+        return false;
+    }
+    history::steady(ticks, places, h.next as usize, h.last)
+}
+
+// Whether one of the buffers, given by its length, is too short.
+fn too_short(
+    s: Setting,
+    places: usize,
+    counters: usize,
+    ticks: usize,
+    rows: usize,
+    threads: usize,
+) -> bool
+    requires { ⌜ (s .banks ≤ 16) × (s .threads ≤ 32) × (places ≡ historyLength s) ⌝ }
+    ensures { λ r. ⌜ r ≡ shortTest s counters ticks rows threads ⌝ }
+{
+    if (counters as u64) < s.banks * 2048 {
+        return true;
+    }
+    if ticks < places {
+        return true;
+    }
+    if rows < places {
+        return true;
+    }
+    (threads as u64) < s.banks * s.threads * 3
+}
+
+// Refusals 1 to 5, with the limits of document 01, and 6.
+pub fn setup_refusal(
+    s: Setting,
+    seeds: &[u16],
+    counters: usize,
+    ticks: usize,
+    rows: usize,
+    threads: usize,
+) -> u32
+    ensures { λ r. ⌜ r ≡ refusalNumber (orElse (settingRefusal limits01 s (now (seeds .entry))) (refuse (shortTest s counters ticks rows threads) shortBuffer none)) ⌝ }
+{
+    let code = setting::refusal(s, seeds, 32768, 4096);
+    if code != 0 {
+        return code;
+    }
+    if too_short(
+        s,
+        setting::history_length(s),
+        counters,
+        ticks,
+        rows,
+        threads,
+    ) {
+        6
+    } else {
+        0
+    }
+}
+
+// Refusals 8 and 9.
+fn place_refusal(s: Setting, last: u64, tick: u64, bank: u64, thread: u64) -> u32
+    ensures { λ r. ⌜ r ≡ refusalNumber (placeRefusal s last tick bank thread) ⌝ }
+{
+    if s.banks <= bank {
+        return 8;
+    }
+    if s.threads <= thread {
+        return 8;
+    }
+    if tick < last {
+        return 9;
+    }
+    if 4611686018427387904 <= tick { 9 } else { 0 }
+}
+
+// Refusals 1 to 9 of a call with a tick, a bank and a thread.
+pub fn call_refusal(
+    s: Setting,
+    seeds: &[u16],
+    h: Head,
+    counters: &[u16],
+    ticks: &[u64],
+    rows: &[u32],
+    threads: &[u32],
+    tick: u64,
+    bank: u64,
+    thread: u64,
+) -> u32
+    ensures { λ r. ⌜ r ≡ refusalNumber (callRefusal document01 s (now (seeds .entry)) (state h (now (counters .entry)) (now (ticks .entry)) (now (rows .entry)) (now (threads .entry))) tick bank thread) ⌝ }
+{
+    let code = setup_refusal(
+        s,
+        seeds,
+        counters.len(),
+        ticks.len(),
+        rows.len(),
+        threads.len(),
+    );
+    if code != 0 {
+        return code;
+    }
+    if !memory_ok(s, h, ticks, setting::history_length(s)) {
+        return 7;
+    }
+    place_refusal(s, h.last, tick, bank, thread)
 }

@@ -1,50 +1,60 @@
+-- `banks_past` tests the banks one by one. The invariant: those passed hold no later tick.
+use Prim.Native.Nat.{_-_, _≤_, _<_}
+use mathlib.Core.Path.{_≡_, sym, _∙_}
+use mathlib.Core.Bool.{true}
+use native.Mathlib.Omega.{arith}
+use lib.ListN.{getD}
+use borrow.Author.Tests.{not-true, not-false}
+use Rattle.rules.specs.Cells.{every}
+use Rattle.rules.specs.History.{notAfter}
+use Rattle.throttle.proofs.Refusals.{every-none, every-more, every-stops}
+use borrow.Author.Needs.{needs}
 use Rattle.throttle.proofs.refusal.banks_past.Statement.{statement}
 use Rattle.throttle.proofs.refusal.banks_past.Tie as tie
-use Rattle.throttle.proofs.refusal.banks_past.Reads as reads
-use Rattle.throttle.proofs.refusal.banks_past.Lts as lts
-use Rattle.throttle.proofs.refusal.is_past.Reads as is-past-reads
+
 
 abbrev Inv-loop : tie.InvT-loop
-Inv-loop h banks stored b₀ b = ?
+Inv-loop h banks stored b₀ b = (b ≤ banks) × (every b (λ i. notAfter (h .last) (getD (h .bank) i 0)) ≡ true)
 
 abbrev μ-loop : tie.MeasureT-loop
-μ-loop h banks stored b₀ b = ?
+μ-loop h banks stored b₀ b = banks - b
 
--- src/refusal.rt:35:5
 loop-holds : tie.Need-loop-holds Inv-loop μ-loop
-loop-holds c = ?
+loop-holds c = (omega arith, every-none (λ i. notAfter (c .before .args .h .last) (getD (c .before .args .h .bank) i 0)))
 
--- src/refusal.rt:36:21
-mul-is-past : tie.Need-mul-is-past Inv-loop μ-loop
-mul-is-past c = ?
+mul-is-not-after : tie.Need-mul-is-not-after Inv-loop μ-loop
+mul-is-not-after c = search needs
 
--- src/refusal.rt:36:21
-array-read-is-past : tie.Need-array-read-is-past Inv-loop μ-loop
-array-read-is-past c = ?
+array-read-is-not-after : tie.Need-array-read-is-not-after Inv-loop μ-loop
+array-read-is-not-after c = search needs
 
--- src/refusal.rt:36:13
-is-past-requires : tie.Need-is-past-requires Inv-loop μ-loop
-is-past-requires c κs = ?
+is-not-after-requires : tie.Need-is-not-after-requires Inv-loop μ-loop
+is-not-after-requires c κs = search needs
 
--- src/refusal.rt:37:13
 returns : tie.Need-returns Inv-loop μ-loop
-returns c = ?
+returns c =
+    let a = c .before .before .before .before .before .args in
+    let l = c .before .before .before .loop in
+    let no = sym (c .before .is-not-after .ensures) ∙ not-true _ (c .if1 .taken) in
+    sym (every-stops (a .banks) (l .b) (λ i. notAfter (a .h .last) (getD (a .h .bank) i 0)) (omega arith) no)
 
--- src/refusal.rt:39:9
 add-b : tie.Need-add-b Inv-loop μ-loop
-add-b c = ?
+add-b c = search needs
 
--- src/refusal.rt:35:5
 loop-less : tie.Need-loop-less Inv-loop μ-loop
-loop-less c = ?
+loop-less c = search needs
 
--- src/refusal.rt:35:5
 loop-again : tie.Need-loop-again Inv-loop μ-loop
-loop-again c = ?
+loop-again c =
+    let a = c .before .before .before .before .before .args in
+    let l = c .before .before .before .loop in
+    let yes = sym (c .before .is-not-after .ensures) ∙ not-false _ (c .if1 .left) in
+    (omega arith, every-more (l .b) (λ i. notAfter (a .h .last) (getD (a .h .bank) i 0)) (l .inv .1) yes)
 
--- src/refusal.rt:29:1
 returns-2 : tie.Need-returns-2 Inv-loop μ-loop
-returns-2 c = ?
+returns-2 c =
+    let e : c .before .loop .b ≡ c .before .before .before .args .banks = omega arith in
+    sym (rw e at (c .before .loop .inv .1))
 
 pub banks-past-spec : {M : Type 1} → statement M
 banks-past-spec =
@@ -53,9 +63,9 @@ banks-past-spec =
     Inv-loop
     μ-loop
     loop-holds
-    mul-is-past
-    array-read-is-past
-    is-past-requires
+    mul-is-not-after
+    array-read-is-not-after
+    is-not-after-requires
     returns
     add-b
     loop-less
