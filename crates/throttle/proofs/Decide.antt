@@ -80,7 +80,7 @@ module _ (s : Setting) (at : List ℕ) (st : State) (bank thread row : ℕ) (kep
   other = estimate (st .counters) bank (passiveFilter s t) at
 
   abbrev d : ℕ
-  d = delayEnd s st bank row
+  d = delayEnd s (st .head) (st .ticks) (st .rows) bank row
 
   abbrev v : View
   v = viewOf s at st bank thread row

@@ -1,3 +1,4 @@
 pub mod Numbers
 pub mod Decide
 pub mod Refusals
+pub mod Parts

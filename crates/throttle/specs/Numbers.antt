@@ -5,6 +5,7 @@ use mathlib.Core.Bool.{Bool, _&&_, _||_, cond}
 use lib.Dec.{ltb, leb, eqb}
 use lib.ListN.{getD}
 use Rattle.rules.specs.declared.Setting.{Setting}
+use Rattle.rules.specs.declared.Head.{Head}
 use Rattle.rules.specs.declared.Answer.{Answer}
 use Rattle.rules.specs.Setting.{epochLength, historyLength}
 use Rattle.rules.specs.State.{State, rowWord}
@@ -31,10 +32,10 @@ decideFrom s t v =
     (ltb (v .active) (s .n) || leb (v .delay) t) (waitFrom s t v)
 
 -- the tick from which the history is free of the row, 0 where no place matches
-unfoldable pub delayEnd : Setting → State → ℕ → ℕ → ℕ
-delayEnd s st bank row =
-    let place = find (historyLength s) (s .td) (st .head .next) (st .ticks) (st .rows) (rowWord bank row) (st .head .last) in
-    cond (eqb place (historyLength s)) 0 (getD (st .ticks) place 0 - 1 + s .td)
+unfoldable pub delayEnd : Setting → Head → List ℕ → List ℕ → ℕ → ℕ → ℕ
+delayEnd s h ticks rows bank row =
+    let place = find (historyLength s) (s .td) (h .next) ticks rows (rowWord bank row) (h .last) in
+    cond (eqb place (historyLength s)) 0 (getD ticks place 0 - 1 + s .td)
 
 -- the filter that the next epoch tests
 abbrev pub passiveFilter : Setting → ℕ → ℕ
@@ -53,6 +54,6 @@ viewOf s at st bank thread row =
       rank = getD (st .head .rank) 3 0;
       active = active;
       other = other;
-      delay = cond (ltb active (s .n) && ltb other (s .n)) 0 (delayEnd s st bank row);
+      delay = cond (ltb active (s .n) && ltb other (s .n)) 0 (delayEnd s (st .head) (st .ticks) (st .rows) bank row);
       end = (epoch s t + 1) * epochLength s;
     }

@@ -12,7 +12,6 @@ use borrow.Author.Needs.{needs}
 use Rattle.throttle.proofs.refusal.banks_past.Statement.{statement}
 use Rattle.throttle.proofs.refusal.banks_past.Tie as tie
 
-
 abbrev Inv-loop : tie.InvT-loop
 Inv-loop h banks stored b₀ b = (b ≤ banks) × (every b (λ i. notAfter (h .last) (getD (h .bank) i 0)) ≡ true)
 

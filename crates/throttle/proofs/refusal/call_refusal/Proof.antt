@@ -14,7 +14,6 @@ use borrow.Author.Needs.{needs}
 use Rattle.throttle.proofs.refusal.call_refusal.Statement.{statement}
 use Rattle.throttle.proofs.refusal.call_refusal.Tie as tie
 
-
 abbrev at-entry : tie.After-setup-refusal → State
 at-entry c = let a = c .before .before .before .before .before .before .args in state (a .h) (a .counters .now) (a .ticks .now) (a .rows .now) (a .threads .now)
 

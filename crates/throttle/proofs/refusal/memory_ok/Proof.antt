@@ -11,7 +11,6 @@ use borrow.Author.Needs.{needs}
 use Rattle.throttle.proofs.refusal.memory_ok.Statement.{statement}
 use Rattle.throttle.proofs.refusal.memory_ok.Tie as tie
 
-
 inside : (c : tie.Else1) → ltb (c .before .before .before .args .h .next) (historyLength (c .before .before .before .args .s)) ≡ true
 inside c =
     let e = c .before .before .before .pre .1 in

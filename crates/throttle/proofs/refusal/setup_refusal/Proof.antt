@@ -13,7 +13,6 @@ use borrow.Author.Needs.{needs}
 use Rattle.throttle.proofs.refusal.setup_refusal.Statement.{statement}
 use Rattle.throttle.proofs.refusal.setup_refusal.Tie as tie
 
-
 -- the setting is accepted
 ok : (c : tie.Else1) → Accepted limits01 (c .before .before .before .args .s) (c .before .before .before .args .seeds .now)
 ok c = accepted limits01 (c .before .before .before .args .s) (c .before .before .before .args .seeds .now) (number-none _ (sym (c .before .refusal .ensures) ∙ c .if1 .left))

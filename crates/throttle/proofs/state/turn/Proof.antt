@@ -1,0 +1,57 @@
+-- `turn` moves the clock of the filters, of the thread counters and of the head.
+use Prim.Native.Nat.{_*_, _/_, _≤_}
+use native.Mathlib.Omega.{arith}
+use Rattle.throttle.proofs.Parts.{epoch-small}
+use Rattle.throttle.proofs.Refusals.{cells-small}
+use borrow.Author.Needs.{needs}
+use Rattle.throttle.proofs.state.turn.Statement.{statement}
+use Rattle.throttle.proofs.state.turn.Tie as tie
+
+div-from : tie.Need-div-from
+div-from c = search needs
+
+div-to : tie.Need-div-to
+div-to c = search needs
+
+turn-requires : tie.Need-turn-requires
+turn-requires c κs =
+    let b = c .before .before .before .before .before .pre .0 in
+    (b .banks, c .before .before .before .before .before .pre .1, epoch-small (c .before .before .before .before .before .args .h .last) (c .before .before .before .before .before .args .s .w / 2) (b .epoch) (omega arith))
+
+mul-turn : tie.Need-mul-turn
+mul-turn c = search needs
+
+mul-turn-2 : tie.Need-mul-turn-2
+mul-turn-2 c = search needs
+
+turn-requires-2 : tie.Need-turn-requires-2
+turn-requires-2 c κs =
+    let b = c .before .before .before .before .before .before .before .before .before .before .pre .0 in
+    (c .before .before .before .before .before .before .before .before .before .before .pre .2, omega arith, epoch-small (c .before .before .before .before .before .before .before .before .before .before .args .h .last) (c .before .before .before .before .before .before .before .before .before .before .args .s .w / 2) (b .epoch) (omega arith))
+
+moved-requires : tie.Need-moved-requires
+moved-requires c κs = search needs
+
+same-length : tie.Need-same-length
+same-length c = search needs
+
+same-length-2 : tie.Need-same-length-2
+same-length-2 c = search needs
+
+returns : tie.Need-returns
+returns c = search needs
+
+pub turn-spec : {M : Type 1} → statement M
+turn-spec =
+    tie.close
+    (tie.spec
+    div-from
+    div-to
+    turn-requires
+    mul-turn
+    mul-turn-2
+    turn-requires-2
+    moved-requires
+    same-length
+    same-length-2
+    returns)
