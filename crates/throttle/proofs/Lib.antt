@@ -2,3 +2,4 @@ pub mod Numbers
 pub mod Decide
 pub mod Refusals
 pub mod Parts
+pub mod Request

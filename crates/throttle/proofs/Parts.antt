@@ -37,10 +37,11 @@ end-small t d h k = omega (arith, div-mul-le-self t d)
 
 pub searchable : (s : Setting) (h : Head) (ticks : List ℕ) → Memory s h ticks
     → (neverRises (historyLength s) (h .next) ticks ≡ true) × (every (historyLength s) (λ p. notAfter (h .last) (getD ticks p 0)) ≡ true)
-searchable s h ticks m =
-    (is-true (neverRises (historyLength s) (h .next) ticks) (m .steady),
-      is-true (every (historyLength s) (λ p. notAfter (h .last) (getD ticks p 0)))
-      (every-all (historyLength s) (λ p. notAfter (h .last) (getD ticks p 0)) (λ p k. after-not (h .last) (getD ticks p 0) (m .history p k))))
+searchable s h ticks m = (
+  is-true (neverRises (historyLength s) (h .next) ticks) (m .steady),
+  is-true (every (historyLength s) (λ p. notAfter (h .last) (getD ticks p 0)))
+      (every-all (historyLength s) (λ p. notAfter (h .last) (getD ticks p 0)) (λ p k. after-not (h .last) (getD ticks p 0) (m .history p k))),
+)
 
 pub delay-skipped : (skip a b : Bool) (d : ℕ) → skip ≡ (a && b) → skip ≡ true → 0 ≡ cond (a && b) 0 d
 delay-skipped skip a b d e h = ap (λ x. cond x 0 d) (sym h ∙ e)
@@ -71,7 +72,7 @@ view-parts s at st bank thread row f cell v ef ec e1 e2 e3 e4 e5 e6 e7 e8 =
     let a : v .active ≡ estimate (st .counters) bank (activeFilter s t) at = e5 ∙ ap (λ x. estimate (st .counters) bank x at) ef in
     let o : v .other ≡ estimate (st .counters) bank (passiveFilter s t) at = e6 ∙ ap (λ x. estimate (st .counters) bank x at) passive in
     let q : getD (st .threads) (cell + f) 0 ≡ indexCounter s (st .threads) bank thread (activeFilter s t) =
-        ap (λ x. getD (st .threads) x 0) (cell-at f) ∙ ap (λ x. indexCounter s (st .threads) bank thread x) ef in
+    ap (λ x. getD (st .threads) x 0) (cell-at f) ∙ ap (λ x. indexCounter s (st .threads) bank thread x) ef in
     λ i. record {
       flying = (e1 ∙ ap (λ x. getD (st .threads) x 0) (cell-at 2)) i;
       quota = (e2 ∙ ap (quotaDown s) q) i;

@@ -3,7 +3,7 @@ use Prim.Native.Nat.{ℕ}
 use mathlib.Core.List.{List}
 use Rattle.rules.specs.declared.Head.{Head}
 use Rattle.rules.specs.State.{State, headOf, headWords}
-use Rattle.rules.specs.Calls.{Outcome, returnCode, outWords}
+use Rattle.rules.specs.Calls.{Reply, Outcome, returnCode, outWords}
 
 pub record Left : Type 0 where
   pub code : ℕ
@@ -25,6 +25,9 @@ state head counters ticks rows threads = record { head = head; counters = counte
 -- the state that a call finds in the caller's memory
 abbrev pub found : List ℕ → List ℕ → List ℕ → List ℕ → List ℕ → State
 found words counters ticks rows threads = state (headOf words) counters ticks rows threads
+
+abbrev pub outcome : Reply → State → Outcome
+outcome reply st = record { reply = reply; state = st }
 
 -- what an outcome of the rules leaves, where the caller's words held out before
 unfoldable pub leaves : Outcome → List ℕ → Left

@@ -39,9 +39,12 @@ delay-end-requires c κs =
     let a = c .before .before .before .before .before .before .before .before .before .args in
     let p = c .before .before .before .before .before .before .before .before .before .pre in
     let e = c .before .before .history-length .ensures in
-    let m = c .first-match .ensures in
-    (m .1, rw e (p .2), p .0 .td,
-      found-fits (c .before .before .history-length .result) (a .s .td) (a .h .next) (a .ticks .now) (a .rows .now) (c .before .row-word .result) (a .h .last) (rw e (p .1 .inRing)) (c .first-match .result) (m .0) (p .5))
+    let m = c .first-match .ensures in (
+      m .1,
+      rw e (p .2),
+      p .0 .td,
+      found-fits (c .before .before .history-length .result) (a .s .td) (a .h .next) (a .ticks .now) (a .rows .now) (c .before .row-word .result) (a .h .last) (rw e (p .1 .inRing)) (c .first-match .result) (m .0) (p .5),
+    )
 
 returns-2 : tie.Need-returns-2
 returns-2 c =

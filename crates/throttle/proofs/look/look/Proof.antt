@@ -12,7 +12,6 @@ use borrow.Author.Needs.{needs}
 use Rattle.throttle.proofs.look.look.Statement.{statement}
 use Rattle.throttle.proofs.look.look.Tie as tie
 
-
 abbrev at-entry : tie.After-cell → State
 at-entry c = let a = c .before .before .before .before .before .before .before .before .before .args in state (a .h) (a .counters .now) (a .ticks .now) (a .rows .now) (a .threads .now)
 
