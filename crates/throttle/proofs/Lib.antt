@@ -3,3 +3,4 @@ pub mod Decide
 pub mod Refusals
 pub mod Parts
 pub mod Request
+pub mod Settled

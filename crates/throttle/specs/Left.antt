@@ -3,7 +3,7 @@ use Prim.Native.Nat.{ℕ}
 use mathlib.Core.List.{List}
 use Rattle.rules.specs.declared.Head.{Head}
 use Rattle.rules.specs.State.{State, headOf, headWords}
-use Rattle.rules.specs.Calls.{Reply, Outcome, returnCode, outWords}
+use Rattle.rules.specs.Calls.{Reply, refused, answered, finished, shown, Outcome, returnCode, outWords}
 
 pub record Left : Type 0 where
   pub code : ℕ
@@ -29,8 +29,15 @@ found words counters ticks rows threads = state (headOf words) counters ticks ro
 abbrev pub outcome : Reply → State → Outcome
 outcome reply st = record { reply = reply; state = st }
 
--- what an outcome of the rules leaves, where the caller's words held out before
-unfoldable pub leaves : Outcome → List ℕ → Left
-leaves o out =
-    left (returnCode (o .reply)) (outWords (o .reply) out) (headWords (o .state .head))
+-- the head's words after a call: those of the new head, or as they were where the call is refused
+abbrev pub wordsLeft : Reply → List ℕ → Head → List ℕ
+wordsLeft (refused r) words h = words
+wordsLeft (answered a) words h = headWords h
+wordsLeft finished words h = headWords h
+wordsLeft (shown c scale quota) words h = headWords h
+
+-- what an outcome of the rules leaves, where out and the head's words were these before
+unfoldable pub leaves : Outcome → List ℕ → List ℕ → Left
+leaves o out words =
+    left (returnCode (o .reply)) (outWords (o .reply) out) (wordsLeft (o .reply) words (o .state .head))
     (o .state .counters) (o .state .ticks) (o .state .rows) (o .state .threads)

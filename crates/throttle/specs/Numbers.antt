@@ -3,12 +3,12 @@ use Prim.Native.Nat.{ℕ, _+_, _-_, _*_, _%_, max}
 use mathlib.Core.List.{List}
 use mathlib.Core.Bool.{Bool, _&&_, _||_, cond}
 use lib.Dec.{ltb, leb, eqb}
-use lib.ListN.{getD}
+use lib.ListN.{getD, set}
 use Rattle.rules.specs.declared.Setting.{Setting}
 use Rattle.rules.specs.declared.Head.{Head}
 use Rattle.rules.specs.declared.Answer.{Answer}
 use Rattle.rules.specs.Setting.{epochLength, historyLength}
-use Rattle.rules.specs.State.{State, rowWord}
+use Rattle.rules.specs.State.{State, threadCell, rowWord}
 use Rattle.rules.specs.Clock.{epoch, activeFilter}
 use Rattle.rules.specs.Filter.{estimate}
 use Rattle.rules.specs.History.{find}
@@ -57,3 +57,7 @@ viewOf s at st bank thread row =
       delay = cond (ltb active (s .n) && ltb other (s .n)) 0 (delayEnd s (st .head) (st .ticks) (st .rows) bank row);
       end = (epoch s t + 1) * epochLength s;
     }
+
+-- the thread counters with one less in flight
+unfoldable pub oneLess : Setting → ℕ → ℕ → List ℕ → List ℕ
+oneLess s bank thread ts = set ts (threadCell s bank thread 2) (getD ts (threadCell s bank thread 2) 0 - 1)

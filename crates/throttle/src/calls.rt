@@ -9,16 +9,19 @@ use rules::Answer;
 use rules::Head;
 use rules::Setting;
 ghost use mathlib.Core.Path.{_≡_};
-ghost use mathlib.Core.List.{List};
-ghost use Prim.Native.Nat.{ℕ, _+_, _-_, _*_, _≤_, _<_};
-ghost use lib.ListN.{length, getD, set};
+ghost use Prim.Native.Nat.{_≤_, _<_};
+ghost use lib.ListN.{length, getD};
 ghost use Rattle.rules.specs.Answers.{none};
-ghost use Rattle.rules.specs.Clock.{turned};
+ghost use Rattle.rules.specs.Setting.{indexScale};
+ghost use Rattle.rules.specs.State.{countersUsed, threadsUsed, threadCell};
+ghost use Rattle.rules.specs.Clock.{epoch, activeFilter, turnedCounters, turnedThreads, movedHead, turned};
 ghost use Rattle.rules.specs.Hash.{places};
-ghost use Rattle.rules.specs.Quota.{document01};
-ghost use Rattle.rules.specs.Calls.{answered, finished, shown, callRefusal, doneRefusal, requested, reported, indexShown};
+ghost use Rattle.rules.specs.Quota.{document01, quotaDown, indexCounter};
+ghost use Rattle.rules.specs.Calls.{answered, callRefusal, requested};
 ghost use Rattle.rules.proofs.Sound.{Sound};
 ghost use Rattle.throttle.specs.Left.{state, outcome};
+ghost use Rattle.throttle.specs.Ready.{Bounds};
+ghost use Rattle.throttle.specs.Numbers.{oneLess};
 
 // The answer to a request, with the head after it.
 pub struct Decided {
@@ -78,4 +81,56 @@ pub fn request(
         s.n <= v.active,
     );
     Decided { answer, head }
+}
+
+// A request done: one less in flight. The history plays no part.
+pub fn done(
+    s: Setting,
+    h: Head,
+    counters: &mut [u16],
+    threads: &mut [u32],
+    tick: u64,
+    bank: u64,
+    thread: u64,
+) -> Head
+    requires { ⌜ Bounds s × (countersUsed s ≤ length (now counters)) × (threadsUsed s ≤ length (now threads)) × (bank < s .banks) × (thread < s .threads) × (1 ≤ getD (now threads) (threadCell s bank thread 2) 0) ⌝ }
+    ensures { λ r. ⌜ (r ≡ movedHead h tick) × (now (counters .exit) ≡ turnedCounters (countersUsed s) (epoch s (h .last)) (epoch s tick) (now (counters .entry))) × (now (threads .exit) ≡ oneLess s bank thread (turnedThreads (threadsUsed s) (epoch s (h .last)) (epoch s tick) (now (threads .entry)))) ⌝ }
+{
+    let moved = turn(s, h, counters, threads, tick);
+    quota::finish(threads, s, bank, thread);
+    moved
+}
+
+// The RowHammer likelihood index of a thread in a bank: its counter in test, its full scale and the quota, with the head after the reading.
+pub struct Shown {
+    pub c: u64,
+    pub scale: u64,
+    pub quota: u64,
+    pub head: Head,
+}
+
+pub fn index(
+    s: Setting,
+    h: Head,
+    counters: &mut [u16],
+    threads: &mut [u32],
+    tick: u64,
+    bank: u64,
+    thread: u64,
+) -> Shown
+    requires { ⌜ Bounds s × (countersUsed s ≤ length (now counters)) × (threadsUsed s ≤ length (now threads)) × (bank < s .banks) × (thread < s .threads) ⌝ }
+    ensures { λ r. ⌜ (r .head ≡ movedHead h tick) × (now (counters .exit) ≡ turnedCounters (countersUsed s) (epoch s (h .last)) (epoch s tick) (now (counters .entry))) × (now (threads .exit) ≡ turnedThreads (threadsUsed s) (epoch s (h .last)) (epoch s tick) (now (threads .entry))) × (r .c ≡ indexCounter s (now (threads .exit)) bank thread (activeFilter s tick)) × (r .scale ≡ indexScale s) × (r .quota ≡ quotaDown s (r .c)) ⌝ }
+{
+    let head = turn(s, h, counters, threads, tick);
+    let length = s.w / 2;
+    let f = (tick / length % 2) as usize;
+    let cell = quota::cell(s, bank, thread);
+    let c = threads[cell + f];
+    let quota = quota::quota(s, c);
+    Shown {
+        c: c as u64,
+        scale: s.l - s.n,
+        quota,
+        head,
+    }
 }

@@ -1,7 +1,194 @@
-// The throttle: set-up, request, done and index for C, proved against the rules.
+// The throttle: set-up, request, done and index for C, proved against the rules. Every call returns 0 when it answered, and else
+// the number of its refusal; a refused call changes nothing that was lent. Of buffers that overlap nothing is promised.
+use crate::refusal::call_refusal;
+use crate::refusal::done_refusal;
+use crate::refusal::setup_refusal;
+use crate::words::answer_number;
+use crate::words::answer_wait;
+use crate::words::load_head;
+use crate::words::store_head;
+ghost use mathlib.Core.Path.{_≡_};
+ghost use mathlib.Core.List.{[]};
+ghost use Rattle.rules.specs.Setting.{settingOf};
+ghost use Rattle.rules.specs.Quota.{document01};
+ghost use Rattle.rules.specs.Calls.{request, done, index, setup, step};
+ghost use Rattle.throttle.specs.Left.{left, found, leaves};
+
 mod calls;
 mod decision;
 mod look;
 mod refusal;
 mod state;
 mod words;
+
+// Set-up: clears the head and the used parts of the buffers.
+// It rules out: a set-up that refuses an accepted setting, clears past the used part, or leaves a head cell.
+#[no_mangle]
+pub extern "C" fn throttle_setup(
+    setting: &[u64; 9],
+    seeds: &[u16],
+    head: &mut [u64; 22],
+    counters: &mut [u16],
+    ticks: &mut [u64],
+    rows: &mut [u32],
+    threads: &mut [u32],
+) -> u32
+    ensures { λ r. ⌜ left r [] (now (head .exit)) (now (counters .exit)) (now (ticks .exit)) (now (rows .exit)) (now (threads .exit)) ≡ leaves (setup document01 (settingOf (now (setting .entry))) (now (seeds .entry)) (found (now (head .entry)) (now (counters .entry)) (now (ticks .entry)) (now (rows .entry)) (now (threads .entry)))) [] (now (head .entry)) ⌝ }
+{
+    let s = setting::load(setting);
+    let code = setup_refusal(
+        s,
+        seeds,
+        counters.len(),
+        ticks.len(),
+        rows.len(),
+        threads.len(),
+    );
+    if code != 0 {
+        return code;
+    }
+    filter::clear(counters, (s.banks * 2048) as usize);
+    history::clear(ticks, rows, setting::history_length(s));
+    quota::clear(threads, (s.banks * s.threads * 3) as usize);
+    *head = [0; 22];
+    0
+}
+
+// A request for a row: out gets the answer's number and the wait tick.
+// It rules out: a throttle that holds all, opens all, never moves its state, or counts a row that waits.
+#[no_mangle]
+pub extern "C" fn throttle_request(
+    setting: &[u64; 9],
+    seeds: &[u16],
+    head: &mut [u64; 22],
+    counters: &mut [u16],
+    ticks: &mut [u64],
+    rows: &mut [u32],
+    threads: &mut [u32],
+    tick: u64,
+    bank: u64,
+    thread: u64,
+    row: u16,
+    out: &mut [u64; 2],
+) -> u32
+    ensures { λ r. ⌜ left r (now (out .exit)) (now (head .exit)) (now (counters .exit)) (now (ticks .exit)) (now (rows .exit)) (now (threads .exit)) ≡ leaves (step document01 (settingOf (now (setting .entry))) (now (seeds .entry)) (found (now (head .entry)) (now (counters .entry)) (now (ticks .entry)) (now (rows .entry)) (now (threads .entry))) (request tick bank thread row)) (now (out .entry)) (now (head .entry)) ⌝ }
+{
+    let s = setting::load(setting);
+    let h = load_head(&*head);
+    let code = call_refusal(
+        s,
+        seeds,
+        h,
+        &*counters,
+        &*ticks,
+        &*rows,
+        &*threads,
+        tick,
+        bank,
+        thread,
+    );
+    if code != 0 {
+        return code;
+    }
+    let d = calls::request(
+        s,
+        seeds,
+        h,
+        counters,
+        ticks,
+        rows,
+        threads,
+        tick,
+        bank,
+        thread,
+        row,
+    );
+    let answer = d.answer;
+    let after = d.head;
+    store_head(after, head);
+    *out = [answer_number(answer), answer_wait(answer)];
+    0
+}
+
+// A request done: one less in flight for the thread in the bank.
+// It rules out: a done that lowers an index counter, moves the clock when refused, or keeps the clock when not.
+#[no_mangle]
+pub extern "C" fn throttle_done(
+    setting: &[u64; 9],
+    seeds: &[u16],
+    head: &mut [u64; 22],
+    counters: &mut [u16],
+    ticks: &mut [u64],
+    rows: &mut [u32],
+    threads: &mut [u32],
+    tick: u64,
+    bank: u64,
+    thread: u64,
+) -> u32
+    ensures { λ r. ⌜ left r [] (now (head .exit)) (now (counters .exit)) (now (ticks .exit)) (now (rows .exit)) (now (threads .exit)) ≡ leaves (step document01 (settingOf (now (setting .entry))) (now (seeds .entry)) (found (now (head .entry)) (now (counters .entry)) (now (ticks .entry)) (now (rows .entry)) (now (threads .entry))) (done tick bank thread)) [] (now (head .entry)) ⌝ }
+{
+    let s = setting::load(setting);
+    let h = load_head(&*head);
+    let code = done_refusal(
+        s,
+        seeds,
+        h,
+        &*counters,
+        &*ticks,
+        &*rows,
+        &*threads,
+        tick,
+        bank,
+        thread,
+    );
+    if code != 0 {
+        return code;
+    }
+    store_head(
+        calls::done(s, h, counters, threads, tick, bank, thread),
+        head,
+    );
+    0
+}
+
+// The RowHammer likelihood index of a thread in a bank: out gets c, D and the quota.
+// It rules out: an invented index, and one that is read before the epoch has turned.
+#[no_mangle]
+pub extern "C" fn throttle_index(
+    setting: &[u64; 9],
+    seeds: &[u16],
+    head: &mut [u64; 22],
+    counters: &mut [u16],
+    ticks: &mut [u64],
+    rows: &mut [u32],
+    threads: &mut [u32],
+    tick: u64,
+    bank: u64,
+    thread: u64,
+    out: &mut [u64; 3],
+) -> u32
+    ensures { λ r. ⌜ left r (now (out .exit)) (now (head .exit)) (now (counters .exit)) (now (ticks .exit)) (now (rows .exit)) (now (threads .exit)) ≡ leaves (step document01 (settingOf (now (setting .entry))) (now (seeds .entry)) (found (now (head .entry)) (now (counters .entry)) (now (ticks .entry)) (now (rows .entry)) (now (threads .entry))) (index tick bank thread)) (now (out .entry)) (now (head .entry)) ⌝ }
+{
+    let s = setting::load(setting);
+    let h = load_head(&*head);
+    let code = call_refusal(
+        s,
+        seeds,
+        h,
+        &*counters,
+        &*ticks,
+        &*rows,
+        &*threads,
+        tick,
+        bank,
+        thread,
+    );
+    if code != 0 {
+        return code;
+    }
+    let x = calls::index(s, h, counters, threads, tick, bank, thread);
+    let after = x.head;
+    store_head(after, head);
+    *out = [x.c, x.scale, x.quota];
+    0
+}

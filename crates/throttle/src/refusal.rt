@@ -9,7 +9,7 @@ ghost use Rattle.rules.specs.Answers.{none, shortBuffer, refusalNumber, refuse,
 ghost use Rattle.rules.specs.Setting.{historyLength, settingRefusal};
 ghost use Rattle.rules.specs.History.{notAfter};
 ghost use Rattle.rules.specs.Quota.{limits01, document01};
-ghost use Rattle.rules.specs.Calls.{callRefusal};
+ghost use Rattle.rules.specs.Calls.{callRefusal, doneRefusal};
 ghost use Rattle.throttle.specs.Left.{state};
 ghost use Rattle.throttle.specs.Tests.{memoryTest, shortTest, placeRefusal};
 
@@ -162,4 +162,38 @@ pub fn call_refusal(
         return 7;
     }
     place_refusal(s, h.last, tick, bank, thread)
+}
+
+// Refusals 1 to 10 of a done.
+pub fn done_refusal(
+    s: Setting,
+    seeds: &[u16],
+    h: Head,
+    counters: &[u16],
+    ticks: &[u64],
+    rows: &[u32],
+    threads: &[u32],
+    tick: u64,
+    bank: u64,
+    thread: u64,
+) -> u32
+    ensures { λ r. ⌜ r ≡ refusalNumber (doneRefusal document01 s (now (seeds .entry)) (state h (now (counters .entry)) (now (ticks .entry)) (now (rows .entry)) (now (threads .entry))) tick bank thread) ⌝ }
+{
+    let code = call_refusal(
+        s,
+        seeds,
+        h,
+        counters,
+        ticks,
+        rows,
+        threads,
+        tick,
+        bank,
+        thread,
+    );
+    if code != 0 {
+        return code;
+    }
+    let flight = quota::cell(s, bank, thread) + 2;
+    if threads[flight] == 0 { 10 } else { 0 }
 }

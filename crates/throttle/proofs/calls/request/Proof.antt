@@ -22,7 +22,6 @@ use borrow.Author.Needs.{needs}
 use Rattle.throttle.proofs.calls.request.Statement.{statement}
 use Rattle.throttle.proofs.calls.request.Tie as tie
 
-
 abbrev entry : tie.Start → State
 entry c = let a = c .args in state (a .h) (a .counters .now) (a .ticks .now) (a .rows .now) (a .threads .now)
 
@@ -88,10 +87,11 @@ same-length-4 c = search needs
 returns : tie.Need-returns
 returns c =
     let a = c .before .before .before .before .before .before .before .before .before .before .before .before .before .before .before .before .before .before .before .before .before .args in
-    let st = entry (c .before .before .before .before .before .before .before .before .before .before .before .before .before .before .before .before .before .before .before .before .before) in
-    (request-waits (a .s) (a .seeds .now) st (a .tick) (a .bank) (a .thread) (a .row) (ok (c .before .before .before .before .before .before .before .before .before .before .before .before .before .before .before .before .before .before .before .before .before)) (c .before .before .decide .result) (moved (c .before .before .before .before .before .before .before .before .before .before .before .before .before)) (moved-is (c .before .before .before .before .before .before .before .before .before .before .before .before .before)) (decided (c .before .before))
-      (λ z. c .if1 .taken (c .before .answer-number .ensures ∙ z)),
-      subst (λ x. Sound (a .s) x) (sym (moved-is (c .before .before .before .before .before .before .before .before .before .before .before .before .before))) (moved-sound (a .s) (a .seeds .now) st (a .tick) (a .bank) (a .thread) (a .row) (ok (c .before .before .before .before .before .before .before .before .before .before .before .before .before .before .before .before .before .before .before .before .before))))
+    let st = entry (c .before .before .before .before .before .before .before .before .before .before .before .before .before .before .before .before .before .before .before .before .before) in (
+      request-waits (a .s) (a .seeds .now) st (a .tick) (a .bank) (a .thread) (a .row) (ok (c .before .before .before .before .before .before .before .before .before .before .before .before .before .before .before .before .before .before .before .before .before)) (c .before .before .decide .result) (moved (c .before .before .before .before .before .before .before .before .before .before .before .before .before)) (moved-is (c .before .before .before .before .before .before .before .before .before .before .before .before .before)) (decided (c .before .before))
+          (λ z. c .if1 .taken (c .before .answer-number .ensures ∙ z)),
+      subst (λ x. Sound (a .s) x) (sym (moved-is (c .before .before .before .before .before .before .before .before .before .before .before .before .before))) (moved-sound (a .s) (a .seeds .now) st (a .tick) (a .bank) (a .thread) (a .row) (ok (c .before .before .before .before .before .before .before .before .before .before .before .before .before .before .before .before .before .before .before .before .before))),
+    )
 
 activate-requires : tie.Need-activate-requires
 activate-requires c κs =
@@ -99,10 +99,12 @@ activate-requires c κs =
     let st = entry (c .before .before .before .before .before .before .before .before .before .before .before .before .before .before .before .before .before .before .before .before .before .before .before .before .before .before .before) in
     let opened = sym (c .before .before .before .before .before .before .before .answer-number .ensures) ∙ c .before .before .before .before .before .before .if1 .left in
     let few = few-flying (a .s) (a .seeds .now) st (a .tick) (a .bank) (a .thread) (a .row) (ok (c .before .before .before .before .before .before .before .before .before .before .before .before .before .before .before .before .before .before .before .before .before .before .before .before .before .before .before)) (c .before .before .before .before .before .before .before .before .decide .result) (decided (c .before .before .before .before .before .before .before .before)) opened in
-    let black = black-by-view (a .s) (a .seeds .now) st (a .tick) (a .bank) (a .thread) (a .row) (ok (c .before .before .before .before .before .before .before .before .before .before .before .before .before .before .before .before .before .before .before .before .before .before .before .before .before .before .before)) (c .before .before .before .before .before .before .before .before .before .look .result) (view-is (c .before .before .before .before .before .before .before .before .before)) in
-    (ready-here (c .before .before .before .before .before .before .before .before .before .before .before .before .before .before .before .before .before .before .before), c .before .before .before .before .before .before .before .before .before .before .before .before .before .before .places .ensures .1,
+    let black = black-by-view (a .s) (a .seeds .now) st (a .tick) (a .bank) (a .thread) (a .row) (ok (c .before .before .before .before .before .before .before .before .before .before .before .before .before .before .before .before .before .before .before .before .before .before .before .before .before .before .before)) (c .before .before .before .before .before .before .before .before .before .look .result) (view-is (c .before .before .before .before .before .before .before .before .before)) in (
+      ready-here (c .before .before .before .before .before .before .before .before .before .before .before .before .before .before .before .before .before .before .before),
+      c .before .before .before .before .before .before .before .before .before .before .before .before .before .before .places .ensures .1,
       subst (λ x. getD (x .threads) (threadCell (a .s) (a .bank) (a .thread) 2) 0 < 255) (sym (moved-is (c .before .before .before .before .before .before .before .before .before .before .before .before .before .before .before .before .before .before .before))) few,
-      black ∙ sym (ap₂ (λ x y. blacklisted (a .s .n) (activeEstimate (a .s) (λ f. x) y (a .bank))) (c .before .before .before .before .before .before .before .before .before .before .before .before .before .before .places .ensures .0) (moved-is (c .before .before .before .before .before .before .before .before .before .before .before .before .before .before .before .before .before .before .before))))
+      black ∙ sym (ap₂ (λ x y. blacklisted (a .s .n) (activeEstimate (a .s) (λ f. x) y (a .bank))) (c .before .before .before .before .before .before .before .before .before .before .before .before .before .before .places .ensures .0) (moved-is (c .before .before .before .before .before .before .before .before .before .before .before .before .before .before .before .before .before .before .before))),
+    )
 
 same-length-5 : tie.Need-same-length-5
 same-length-5 c = c .before .before .before .before .before .before .before .before .activate .kept .1 .1 .0 ∙ c .before .before .before .before .before .before .before .before .before .before .before .before .before .before .before .before .before .before .before .before .before .before .before .before .before .before .before .before .turn .kept .1 .1 .0
@@ -123,9 +125,10 @@ returns-2 c =
     let z = state (c .before .before .before .before .before .before .before .before .activate .result) (c .before .before .before .before .before .before .before .before .activate .last .1 .1 .0) (c .before .before .before .before .before .before .before .before .activate .last .1 .1 .1 .0) (c .before .before .before .before .before .before .before .before .activate .last .1 .1 .1 .1 .0) (c .before .before .before .before .before .before .before .before .activate .last .1 .1 .1 .1 .1 .0) in
     let opened = sym (c .before .before .before .before .before .before .before .before .before .before .before .before .before .before .before .before .answer-number .ensures) ∙ c .before .before .before .before .before .before .before .before .before .before .before .before .before .before .before .if1 .left in
     let after : z ≡ activated (a .s) (λ f. places (a .seeds .now) (a .row)) (turned (a .s) st (a .tick)) (a .bank) (a .thread) (a .row) =
-        c .before .before .before .before .before .before .before .before .activate .ensures ∙ ap₂ (λ x y. activated (a .s) (λ f. x) y (a .bank) (a .thread) (a .row)) (c .before .before .before .before .before .before .before .before .before .before .before .before .before .before .before .before .before .before .before .before .before .before .before .places .ensures .0) (moved-is (c .before .before .before .before .before .before .before .before .before .before .before .before .before .before .before .before .before .before .before .before .before .before .before .before .before .before .before .before)) in
-    (request-opens (a .s) (a .seeds .now) st (a .tick) (a .bank) (a .thread) (a .row) (ok (c .before .before .before .before .before .before .before .before .before .before .before .before .before .before .before .before .before .before .before .before .before .before .before .before .before .before .before .before .before .before .before .before .before .before .before .before)) (c .before .before .before .before .before .before .before .before .before .before .before .before .before .before .before .before .before .decide .result) z after (decided (c .before .before .before .before .before .before .before .before .before .before .before .before .before .before .before .before .before)) opened,
-      subst (λ x. Sound (a .s) x) (sym after) (activated-sound (a .s) (a .seeds .now) st (a .tick) (a .bank) (a .thread) (a .row) (ok (c .before .before .before .before .before .before .before .before .before .before .before .before .before .before .before .before .before .before .before .before .before .before .before .before .before .before .before .before .before .before .before .before .before .before .before .before))))
+    c .before .before .before .before .before .before .before .before .activate .ensures ∙ ap₂ (λ x y. activated (a .s) (λ f. x) y (a .bank) (a .thread) (a .row)) (c .before .before .before .before .before .before .before .before .before .before .before .before .before .before .before .before .before .before .before .before .before .before .before .places .ensures .0) (moved-is (c .before .before .before .before .before .before .before .before .before .before .before .before .before .before .before .before .before .before .before .before .before .before .before .before .before .before .before .before)) in (
+      request-opens (a .s) (a .seeds .now) st (a .tick) (a .bank) (a .thread) (a .row) (ok (c .before .before .before .before .before .before .before .before .before .before .before .before .before .before .before .before .before .before .before .before .before .before .before .before .before .before .before .before .before .before .before .before .before .before .before .before)) (c .before .before .before .before .before .before .before .before .before .before .before .before .before .before .before .before .before .decide .result) z after (decided (c .before .before .before .before .before .before .before .before .before .before .before .before .before .before .before .before .before)) opened,
+      subst (λ x. Sound (a .s) x) (sym after) (activated-sound (a .s) (a .seeds .now) st (a .tick) (a .bank) (a .thread) (a .row) (ok (c .before .before .before .before .before .before .before .before .before .before .before .before .before .before .before .before .before .before .before .before .before .before .before .before .before .before .before .before .before .before .before .before .before .before .before .before))),
+    )
 
 pub request-spec : {M : Type 1} → statement M
 request-spec =

@@ -1,0 +1,42 @@
+-- `done` turns the state to the tick and takes one from in flight, which the turn keeps.
+use mathlib.Core.Path.{_≡_, refl, sym, ap, _∙_}
+use native.Mathlib.Omega.{arith}
+use Rattle.rules.specs.Clock.{epoch}
+use Rattle.throttle.specs.Numbers.{oneLess}
+use Rattle.throttle.proofs.Settled.{turned-flying}
+use borrow.Author.Needs.{needs}
+use Rattle.throttle.proofs.calls.done.Statement.{statement}
+use Rattle.throttle.proofs.calls.done.Tie as tie
+
+turn-requires : tie.Need-turn-requires
+turn-requires c κs = search needs
+
+finish-requires : tie.Need-finish-requires
+finish-requires c κs =
+    let a = c .before .before .before .before .before .before .before .before .before .before .args in
+    let p = c .before .before .before .before .before .before .before .before .before .before .pre in
+    let e = c .before .before .before .before .before .turn .ensures .2 in
+    let kept = turned-flying (a .s) (a .bank) (a .thread) (epoch (a .s) (a .h .last)) (epoch (a .s) (a .tick)) (a .threads .now) in
+    (p .3, p .4, p .0 .banks, p .0 .threads, omega (arith, p .2, c .before .before .before .before .before .turn .kept .1 .1 .1 .0), rw e (rw kept (p .5)))
+
+same-length : tie.Need-same-length
+same-length c = search needs
+
+same-length-2 : tie.Need-same-length-2
+same-length-2 c = search needs
+
+returns : tie.Need-returns
+unfolding oneLess
+returns c =
+    let e = c .before .before .before .before .before .before .before .before .turn .ensures .2 in
+    (c .before .before .before .before .before .before .before .before .turn .ensures .0, c .before .before .before .before .before .before .before .before .turn .ensures .1, rw e at (c .before .before .finish .ensures))
+
+pub done-spec : {M : Type 1} → statement M
+done-spec =
+    tie.close
+    (tie.spec
+    turn-requires
+    finish-requires
+    same-length
+    same-length-2
+    returns)

@@ -1,0 +1,69 @@
+-- `index` turns the state to the tick and reads the thread's counter in test.
+use Prim.Native.Nat.{_+_, _/_, _%_}
+use mathlib.Core.Path.{_≡_, refl, sym, ap, _∙_}
+use native.Mathlib.Omega.{arith}
+use lib.ListN.{getD}
+use Rattle.rules.specs.State.{threadCell}
+use Rattle.quota.proofs.Index.{cell-at}
+use borrow.Author.Needs.{needs}
+use Rattle.throttle.proofs.calls.index.Statement.{statement}
+use Rattle.throttle.proofs.calls.index.Tie as tie
+
+turn-requires : tie.Need-turn-requires
+turn-requires c κs = search needs
+
+div-f : tie.Need-div-f
+div-f c = search needs
+
+cell-requires : tie.Need-cell-requires
+cell-requires c κs = search needs
+
+add-c : tie.Need-add-c
+add-c c = search needs
+
+mul-c : tie.Need-mul-c
+mul-c c = search needs
+
+slice-read-c : tie.Need-slice-read-c
+slice-read-c c = search needs
+
+quota-requires : tie.Need-quota-requires
+quota-requires c κs = search needs
+
+cast-t18 : tie.Need-cast-t18
+cast-t18 c =
+    let a = c .before .before .before .before .before .before .before .before .before .before .before .before .before .args in
+    omega (arith, c .before .slice-known5 .given (c .before .before .cell .result + a .tick / (a .s .w / 2) % 2))
+
+sub-t19 : tie.Need-sub-t19
+sub-t19 c = search needs
+
+same-length : tie.Need-same-length
+same-length c = search needs
+
+same-length-2 : tie.Need-same-length-2
+same-length-2 c = search needs
+
+returns : tie.Need-returns
+returns c =
+    let a = c .before .before .before .before .before .before .before .before .before .before .before .before .before .before .args in
+    let f = a .tick / (a .s .w / 2) % 2 in
+    let e = cell-at (a .s) (a .bank) (a .thread) (c .before .before .before .cell .result) f (c .before .before .before .cell .ensures .0) in
+    (c .before .before .before .before .before .before .before .before .before .turn .ensures .0, c .before .before .before .before .before .before .before .before .before .turn .ensures .1, c .before .before .before .before .before .before .before .before .before .turn .ensures .2, ap (λ x. getD (c .before .before .before .before .before .before .before .before .before .turn .last .1 .1 .1 .0) x 0) e, refl, c .before .quota .ensures .0)
+
+pub index-spec : {M : Type 1} → statement M
+index-spec =
+    tie.close
+    (tie.spec
+    turn-requires
+    div-f
+    cell-requires
+    add-c
+    mul-c
+    slice-read-c
+    quota-requires
+    cast-t18
+    sub-t19
+    same-length
+    same-length-2
+    returns)
