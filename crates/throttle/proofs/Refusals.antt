@@ -145,6 +145,19 @@ module _ (s : Setting) (seeds : List ℕ) (st : State) (tick bank thread : ℕ) 
   pub call-place : memoryTest s (st .head) (st .ticks) ≡ true → callRefusal document01 s seeds st tick bank thread ≡ placeRefusal s (st .head .last) tick bank thread
   call-place e = beyond ∙ rw e
 
+-- 10 comes after the refusals of a call
+module _ (s : Setting) (seeds : List ℕ) (st : State) (tick bank thread : ℕ) where
+  pub done-first : refusalNumber (callRefusal document01 s seeds st tick bank thread) ≢ 0
+      → doneRefusal document01 s seeds st tick bank thread ≡ callRefusal document01 s seeds st tick bank thread
+  unfolding doneRefusal
+  done-first h = orElse-first (callRefusal document01 s seeds st tick bank thread) _ h
+
+  pub done-last : (flying : ℕ) → flying ≡ getD (st .threads) (threadCell s bank thread 2) 0 → refusalNumber (callRefusal document01 s seeds st tick bank thread) ≡ 0
+      → doneRefusal document01 s seeds st tick bank thread ≡ refuse (eqb flying 0) noneInFlight none
+  unfolding doneRefusal
+  done-last flying e h =
+      rw e (orElse-second (callRefusal document01 s seeds st tick bank thread) (refuse (eqb (getD (st .threads) (threadCell s bank thread 2) 0) 0) noneInFlight none) h)
+
 -- the products that a buffer's length is compared with are small
 pub cells-small : (banks threads : ℕ) → banks ≤ 16 → threads ≤ 32 → banks * threads ≤ 512
 cells-small banks threads b t = mul-le-mul {n₂ = 16} {m₂ = 32} b t

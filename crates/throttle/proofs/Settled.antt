@@ -107,3 +107,7 @@ turned-flying s bank thread e e′ ts =
     stays : T (not (in-used && (counter && cleared)))
     stays = not-T (in-used && (counter && cleared)) (λ q.
         omega (arith, ltb→lt (threadCell s bank thread 2 % 3) 2 (and-l counter cleared (and-r in-used (counter && cleared) q))))
+
+pub some-flying : (x : ℕ) → T (not (eqb x 0)) → 1 ≤ x
+some-flying zero h = absurd h
+some-flying (suc x) h = omega arith

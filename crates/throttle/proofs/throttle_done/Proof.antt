@@ -1,73 +1,104 @@
+-- `throttle_done` is refused as the rules say, or is the rules' done.
+use Prim.Native.Nat.{_≤_}
+use mathlib.Core.Path.{_≡_, refl, sym, ap, _∙_}
+use mathlib.Core.List.{[]}
+use lib.ListN.{getD}
+use Rattle.rules.specs.Answers.{none, refusalNumber}
+use Rattle.rules.specs.Setting.{settingOf}
+use Rattle.rules.specs.State.{State, threadCell}
+use Rattle.rules.specs.Clock.{turned}
+use Rattle.rules.specs.Quota.{document01}
+use Rattle.rules.specs.Calls.{doneRefusal, reported, step}
+use Rattle.rules.proofs.Accept.{Taken, taken, done-taken, number-none}
+use Rattle.throttle.specs.Left.{state, found}
+use Rattle.throttle.proofs.Request.{bounds}
+use Rattle.throttle.proofs.Settled.{left-refused, left-done, some-flying}
 use borrow.Author.Needs.{needs}
 use Rattle.throttle.proofs.throttle_done.Statement.{statement}
 use Rattle.throttle.proofs.throttle_done.Tie as tie
-use Rattle.throttle.proofs.throttle_done.Reads as reads
-use Rattle.throttle.proofs.throttle_done.Lts as lts
-use Rattle.setting.proofs.load.Reads as load-reads
-use Rattle.throttle.proofs.calls.done.Reads as done-reads
-use Rattle.throttle.proofs.refusal.done_refusal.Reads as done-refusal-reads
-use Rattle.throttle.proofs.words.load_head.Reads as load-head-reads
-use Rattle.throttle.proofs.words.store_head.Reads as store-head-reads
 
--- src/lib.rt:130:9
+abbrev entry : tie.After-done-refusal → State
+entry c = let a = c .before .before .before .before .before .before .before .before .before .before .before .before .before .args in found (a .head .now) (a .counters .now) (a .ticks .now) (a .rows .now) (a .threads .now)
+
+code-is : (c : tie.After-done-refusal) → c .done-refusal .result
+    ≡ refusalNumber (doneRefusal document01 (settingOf (c .before .before .before .before .before .before .before .before .before .before .before .before .before .args .setting .now)) (c .before .before .before .before .before .before .before .before .before .before .before .before .before .args .seeds .now) (entry c) (c .before .before .before .before .before .before .before .before .before .before .before .before .before .args .tick) (c .before .before .before .before .before .before .before .before .before .before .before .before .before .args .bank) (c .before .before .before .before .before .before .before .before .before .before .before .before .before .args .thread))
+code-is c =
+    let e = c .before .before .before .before .before .before .before .load .ensures in
+    let h = c .before .before .before .before .before .load-head .ensures in
+    rw (e, h) at (c .done-refusal .ensures)
+
+abbrev held : tie.After-done-refusal → State
+held c = let a = c .before .before .before .before .before .before .before .before .before .before .before .before .before .args in state (c .before .before .before .before .before .load-head .result) (a .counters .now) (a .ticks .now) (a .rows .now) (a .threads .now)
+
+-- the call is not refused, and one is in flight
+ok : (c : tie.Else1) → Taken document01 (c .before .before .before .before .before .before .before .before .load .result) (c .before .before .before .before .before .before .before .before .before .before .before .before .before .before .args .seeds .now) (held (c .before)) (c .before .before .before .before .before .before .before .before .before .before .before .before .before .before .args .tick) (c .before .before .before .before .before .before .before .before .before .before .before .before .before .before .args .bank) (c .before .before .before .before .before .before .before .before .before .before .before .before .before .before .args .thread)
+    × (1 ≤ getD (c .before .before .before .before .before .before .before .before .before .before .before .before .before .before .args .threads .now) (threadCell (c .before .before .before .before .before .before .before .before .load .result) (c .before .before .before .before .before .before .before .before .before .before .before .before .before .before .args .bank) (c .before .before .before .before .before .before .before .before .before .before .before .before .before .before .args .thread) 2) 0)
+ok c =
+    let a = c .before .before .before .before .before .before .before .before .before .before .before .before .before .before .args in
+    let r = done-taken document01 (c .before .before .before .before .before .before .before .before .load .result) (a .seeds .now) (held (c .before)) (a .tick) (a .bank) (a .thread) (number-none _ (sym (c .before .done-refusal .ensures) ∙ c .if1 .left)) in
+    (taken document01 (c .before .before .before .before .before .before .before .before .load .result) (a .seeds .now) (held (c .before)) (a .tick) (a .bank) (a .thread) (r .0), some-flying _ (r .1))
+
 load-requires : tie.Need-load-requires
 load-requires c κs = search needs
 
--- src/lib.rt:131:9
 load-head-requires : tie.Need-load-head-requires
 load-head-requires c κs = search needs
 
--- src/lib.rt:132:9
 done-refusal-requires : tie.Need-done-refusal-requires
 done-refusal-requires c κs = search needs
 
--- src/lib.rt:145:9
 same-length : tie.Need-same-length
 same-length c = search needs
 
--- src/lib.rt:145:9
 same-length-2 : tie.Need-same-length-2
 same-length-2 c = search needs
 
--- src/lib.rt:145:9
 same-length-3 : tie.Need-same-length-3
 same-length-3 c = search needs
 
--- src/lib.rt:145:9
 same-length-4 : tie.Need-same-length-4
 same-length-4 c = search needs
 
--- src/lib.rt:145:9
 returns : tie.Need-returns
-returns c = ?
+unfolding step
+returns c =
+    let a = c .before .before .before .before .before .before .before .before .before .before .before .before .before .before .args in
+    let st = entry (c .before) in
+    let s = settingOf (a .setting .now) in
+    left-refused (doneRefusal document01 s (a .seeds .now) st (a .tick) (a .bank) (a .thread))
+    (reported s (turned s st (a .tick)) (a .bank) (a .thread)) (c .before .done-refusal .result)
+    [] (a .head .now) (a .counters .now) (a .ticks .now) (a .rows .now) (a .threads .now) (code-is (c .before)) (c .if1 .taken)
 
--- src/lib.rt:148:9
 done-requires : tie.Need-done-requires
-done-requires c κs = ?
+done-requires c κs =
+    let k = ok (c .before .before) .0 in
+    (bounds (k .setting), k .long .counters, k .long .threads, k .bank-in, k .thread-in, ok (c .before .before) .1)
 
--- src/lib.rt:147:5
 store-head-requires : tie.Need-store-head-requires
 store-head-requires c κs = search needs
 
--- src/lib.rt:115:1
 same-length-5 : tie.Need-same-length-5
 same-length-5 c = search needs
 
--- src/lib.rt:115:1
 same-length-6 : tie.Need-same-length-6
 same-length-6 c = search needs
 
--- src/lib.rt:115:1
 same-length-7 : tie.Need-same-length-7
 same-length-7 c = search needs
 
--- src/lib.rt:115:1
 same-length-8 : tie.Need-same-length-8
 same-length-8 c = search needs
 
--- src/lib.rt:115:1
 returns-2 : tie.Need-returns-2
-returns-2 c = ?
+returns-2 c =
+    let a = c .before .before .before .before .before .before .before .before .before .before .before .before .before .before .before .before .before .before .before .before .before .before .before .args in
+    let e = c .before .before .before .before .before .before .before .before .before .before .before .before .before .before .before .before .before .load .ensures in
+    let h = c .before .before .before .before .before .before .before .before .before .before .before .before .before .before .before .load-head .ensures in
+    let q = c .before .before .before .before .before .before .done in
+    rw (c .store-head .ensures)
+    (left-done (settingOf (a .setting .now)) (a .seeds .now) (a .head .now) (a .counters .now) (a .ticks .now) (a .rows .now) (a .threads .now)
+    (a .tick) (a .bank) (a .thread) (sym (code-is (c .before .before .before .before .before .before .before .before .before .before)) ∙ c .before .before .before .before .before .before .before .before .before .if1 .left) (q .result) (q .last .1 .1 .0) (q .last .1 .1 .1 .0)
+    (rw h at (q .ensures .0)) (rw (e, h) at (q .ensures .1)) (rw (e, h) at (q .ensures .2)))
 
 pub throttle-done-spec : {M : Type 1} → statement M
 throttle-done-spec =

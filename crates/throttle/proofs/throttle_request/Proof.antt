@@ -16,7 +16,6 @@ use borrow.Author.Needs.{needs}
 use Rattle.throttle.proofs.throttle_request.Statement.{statement}
 use Rattle.throttle.proofs.throttle_request.Tie as tie
 
-
 abbrev entry : tie.After-call-refusal → State
 entry c = let a = c .before .before .before .before .before .before .before .before .before .before .before .before .before .args in found (a .head .now) (a .counters .now) (a .ticks .now) (a .rows .now) (a .threads .now)
 

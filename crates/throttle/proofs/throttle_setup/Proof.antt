@@ -17,7 +17,6 @@ use borrow.Author.Needs.{needs}
 use Rattle.throttle.proofs.throttle_setup.Statement.{statement}
 use Rattle.throttle.proofs.throttle_setup.Tie as tie
 
-
 abbrev entry : tie.After-setup-refusal → State
 entry c = let a = c .before .before .before .before .before .before .before .args in found (a .head .now) (a .counters .now) (a .ticks .now) (a .rows .now) (a .threads .now)
 
