@@ -1,5 +1,3 @@
-pub mod Numbers
-pub mod Decide
 pub mod Refusals
 pub mod Parts
 pub mod Request

@@ -19,9 +19,9 @@ use Rattle.rules.specs.Quota.{quotaDown, inFlightHere, indexCounter}
 use Rattle.rules.specs.Decision.{activeEstimate, activatedHead, activatedThreads, activated}
 use Rattle.rules.proofs.Tests.{is-true, every-all}
 use Rattle.rules.proofs.Memory.{Memory, after-not}
-use Rattle.throttle.specs.declared.decision.View.{View}
+use Rattle.decision.specs.declared.View.{View}
 use Rattle.throttle.specs.Left.{state}
-use Rattle.throttle.specs.Numbers.{delayEnd, passiveFilter, viewOf}
+use Rattle.decision.specs.Numbers.{delayEnd, passiveFilter, viewOf}
 
 -- ---- numbers
 

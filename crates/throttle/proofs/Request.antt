@@ -27,11 +27,11 @@ use Rattle.rules.proofs.Memory.{Memory, memory, taken-memory, turned-long, acti
 use Rattle.rules.proofs.Step.{opened-rules}
 use Rattle.rules.proofs.Fits.{quota-most}
 use Rattle.rules.proofs.Sound.{Sound}
-use Rattle.throttle.specs.declared.decision.View.{View}
+use Rattle.decision.specs.declared.View.{View}
 use Rattle.throttle.specs.Left.{state, outcome}
-use Rattle.throttle.specs.Numbers.{decideFrom, viewOf}
+use Rattle.decision.specs.Numbers.{decideFrom, viewOf}
 use Rattle.throttle.specs.Ready.{Bounds, Ready}
-use Rattle.throttle.proofs.Decide.{decide-view}
+use Rattle.decision.proofs.Views.{decide-view}
 
 -- ---- what an accepted setting gives
 

@@ -22,7 +22,7 @@ use Rattle.rules.specs.Calls.{Call, request, done, index, Reply, refused, answe
 use Rattle.rules.proofs.Tests.{and-l, and-r}
 use Rattle.rules.proofs.Cells.{clear-kept}
 use Rattle.throttle.specs.Left.{Left, left, state, found, outcome, leaves}
-use Rattle.throttle.specs.Numbers.{oneLess}
+use Rattle.throttle.specs.Left.{oneLess}
 
 -- ---- refused or not
 

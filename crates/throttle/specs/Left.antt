@@ -1,8 +1,10 @@
 -- What a call of the C interface finds and leaves: its return code, the words it writes, the head's words and the four buffers.
-use Prim.Native.Nat.{ℕ}
+use Prim.Native.Nat.{ℕ, _-_}
 use mathlib.Core.List.{List}
+use lib.ListN.{getD, set}
+use Rattle.rules.specs.declared.Setting.{Setting}
 use Rattle.rules.specs.declared.Head.{Head}
-use Rattle.rules.specs.State.{State, headOf, headWords}
+use Rattle.rules.specs.State.{State, threadCell, headOf, headWords}
 use Rattle.rules.specs.Calls.{Reply, refused, answered, finished, shown, Outcome, returnCode, outWords}
 
 pub record Left : Type 0 where
@@ -41,3 +43,7 @@ unfoldable pub leaves : Outcome → List ℕ → List ℕ → Left
 leaves o out words =
     left (returnCode (o .reply)) (outWords (o .reply) out) (wordsLeft (o .reply) words (o .state .head))
     (o .state .counters) (o .state .ticks) (o .state .rows) (o .state .threads)
+
+-- the thread counters with one less in flight
+unfoldable pub oneLess : Setting → ℕ → ℕ → List ℕ → List ℕ
+oneLess s bank thread ts = set ts (threadCell s bank thread 2) (getD ts (threadCell s bank thread 2) 0 - 1)

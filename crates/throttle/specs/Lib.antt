@@ -1,4 +1,3 @@
 pub mod Left
-pub mod Numbers
 pub mod Ready
 pub mod Tests

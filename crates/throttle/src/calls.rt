@@ -1,10 +1,10 @@
 // The calls on a state that passed the tests of refusals 1 to 9, for callers in Rattle that own their memory.
 // Each leaves a state that passes the tests of 6 and 7, so that such a caller tests bank, thread and tick only.
-use crate::decision::decide;
 use crate::look::look;
 use crate::state::activate;
 use crate::state::turn;
 use crate::words::answer_number;
+use decision::decide;
 use rules::Answer;
 use rules::Head;
 use rules::Setting;
@@ -21,7 +21,7 @@ ghost use Rattle.rules.specs.Calls.{answered, callRefusal, requested};
 ghost use Rattle.rules.proofs.Sound.{Sound};
 ghost use Rattle.throttle.specs.Left.{state, outcome};
 ghost use Rattle.throttle.specs.Ready.{Bounds};
-ghost use Rattle.throttle.specs.Numbers.{oneLess};
+ghost use Rattle.throttle.specs.Left.{oneLess};
 
 // The answer to a request, with the head after it.
 pub struct Decided {

@@ -15,7 +15,6 @@ ghost use Rattle.rules.specs.Calls.{request, done, index, setup, step};
 ghost use Rattle.throttle.specs.Left.{left, found, leaves};
 
 mod calls;
-mod decision;
 mod look;
 mod refusal;
 mod state;

@@ -1,6 +1,6 @@
 // What the decision on a request looks at, read from the state.
-use crate::decision::View;
 use crate::state::row_word;
+use decision::View;
 use rules::Head;
 use rules::Setting;
 ghost use mathlib.Core.Path.{_≡_};
@@ -13,7 +13,7 @@ ghost use Rattle.rules.specs.Filter.{Within};
 ghost use Rattle.rules.proofs.Memory.{Memory};
 ghost use Rattle.throttle.specs.Left.{state};
 ghost use Rattle.throttle.specs.Ready.{Bounds, Ready};
-ghost use Rattle.throttle.specs.Numbers.{delayEnd, viewOf};
+ghost use Rattle.decision.specs.Numbers.{delayEnd, viewOf};
 
 fn both(a: bool, b: bool) -> bool
     ensures { λ r. ⌜ r ≡ (a && b) ⌝ }

@@ -2,7 +2,7 @@
 use mathlib.Core.Path.{_≡_, refl, sym, ap, _∙_}
 use native.Mathlib.Omega.{arith}
 use Rattle.rules.specs.Clock.{epoch}
-use Rattle.throttle.specs.Numbers.{oneLess}
+use Rattle.throttle.specs.Left.{oneLess}
 use Rattle.throttle.proofs.Settled.{turned-flying}
 use borrow.Author.Needs.{needs}
 use Rattle.throttle.proofs.calls.done.Statement.{statement}

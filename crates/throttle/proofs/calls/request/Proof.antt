@@ -15,7 +15,7 @@ use Rattle.rules.proofs.Tests.{is-true}
 use Rattle.rules.specs.Setting.{seedsInRange}
 use Rattle.rules.proofs.Sound.{Sound}
 use Rattle.throttle.specs.Left.{state}
-use Rattle.throttle.specs.Numbers.{viewOf}
+use Rattle.decision.specs.Numbers.{viewOf}
 use Rattle.throttle.specs.Ready.{Ready}
 use Rattle.throttle.proofs.Request.{bounds, turned-parts, ready, within, view-small, decision, black-by-view, few-flying, request-waits, request-opens, moved-sound, activated-sound}
 use borrow.Author.Needs.{needs}

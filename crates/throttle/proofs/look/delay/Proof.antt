@@ -6,7 +6,7 @@ use native.Mathlib.Omega.{arith}
 use Rattle.rules.specs.Setting.{historyLength}
 use Rattle.rules.specs.State.{rowWord}
 use Rattle.history.proofs.Found.{found-fits}
-use Rattle.throttle.specs.Numbers.{delayEnd}
+use Rattle.decision.specs.Numbers.{delayEnd}
 use Rattle.throttle.proofs.Parts.{searchable, delay-skipped, delay-found}
 use borrow.Author.Needs.{needs}
 use Rattle.throttle.proofs.look.delay.Statement.{statement}

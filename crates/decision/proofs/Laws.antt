@@ -12,8 +12,8 @@ use Rattle.rules.specs.declared.Answer.{Answer}
 use Rattle.rules.specs.declared.Answer.the-variants.{Opened, Wait, Quota}
 use Rattle.rules.specs.Decision.{passed, firstFailing}
 use Rattle.rules.specs.Claims.{gapEnd, closedTick}
-use Rattle.throttle.specs.declared.decision.View.{View}
-use Rattle.throttle.specs.Numbers.{gapsEnd, waitFrom, decideFrom}
+use Rattle.decision.specs.declared.View.{View}
+use Rattle.decision.specs.Numbers.{gapsEnd, waitFrom, decideFrom}
 
 -- a rule passes from the end of its gap on
 pub passed-leb : (gap stored t : ℕ) → passed gap stored t ≡ leb (gapEnd gap stored) t

@@ -2,8 +2,8 @@
 use native.Mathlib.Omega.{arith}
 use borrow.Author.Tests.{eq-eqb, ne-eqb}
 use borrow.Author.Needs.{needs}
-use Rattle.throttle.proofs.decision.gap_end.Statement.{statement}
-use Rattle.throttle.proofs.decision.gap_end.Tie as tie
+use Rattle.decision.proofs.gap_end.Statement.{statement}
+use Rattle.decision.proofs.gap_end.Tie as tie
 
 sub-result : tie.Need-sub-result
 sub-result c = search needs

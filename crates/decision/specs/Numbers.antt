@@ -3,19 +3,19 @@ use Prim.Native.Nat.{ℕ, _+_, _-_, _*_, _%_, max}
 use mathlib.Core.List.{List}
 use mathlib.Core.Bool.{Bool, _&&_, _||_, cond}
 use lib.Dec.{ltb, leb, eqb}
-use lib.ListN.{getD, set}
+use lib.ListN.{getD}
 use Rattle.rules.specs.declared.Setting.{Setting}
 use Rattle.rules.specs.declared.Head.{Head}
 use Rattle.rules.specs.declared.Answer.{Answer}
 use Rattle.rules.specs.Setting.{epochLength, historyLength}
-use Rattle.rules.specs.State.{State, threadCell, rowWord}
+use Rattle.rules.specs.State.{State, rowWord}
 use Rattle.rules.specs.Clock.{epoch, activeFilter}
 use Rattle.rules.specs.Filter.{estimate}
 use Rattle.rules.specs.History.{find}
 use Rattle.rules.specs.Quota.{quotaDown, inFlightHere, indexCounter}
 use Rattle.rules.specs.Decision.{passed, activeEstimate, firstFailing}
 use Rattle.rules.specs.Claims.{gapEnd, closedTick}
-use Rattle.throttle.specs.declared.decision.View.{View}
+use Rattle.decision.specs.declared.View.{View}
 
 -- the first tick from t on that bank and rank rules allow
 unfoldable pub gapsEnd : Setting → ℕ → View → ℕ
@@ -57,7 +57,3 @@ viewOf s at st bank thread row =
       delay = cond (ltb active (s .n) && ltb other (s .n)) 0 (delayEnd s (st .head) (st .ticks) (st .rows) bank row);
       end = (epoch s t + 1) * epochLength s;
     }
-
--- the thread counters with one less in flight
-unfoldable pub oneLess : Setting → ℕ → ℕ → List ℕ → List ℕ
-oneLess s bank thread ts = set ts (threadCell s bank thread 2) (getD ts (threadCell s bank thread 2) 0 - 1)

@@ -2,8 +2,8 @@
 use borrow.Author.Tests.{lt-ltb, le-ltb, le-leb, lt-leb}
 use Rattle.rules.specs.Claims.{closedTick}
 use borrow.Author.Needs.{needs}
-use Rattle.throttle.proofs.decision.wait_tick.Statement.{statement}
-use Rattle.throttle.proofs.decision.wait_tick.Tie as tie
+use Rattle.decision.proofs.wait_tick.Statement.{statement}
+use Rattle.decision.proofs.wait_tick.Tie as tie
 
 returns : tie.Need-returns
 unfolding closedTick

@@ -21,8 +21,8 @@ use Rattle.rules.proofs.Tests.{is-true, is-false, same-test}
 use Rattle.rules.proofs.Memory.{Memory}
 use Rattle.rules.proofs.Wait.{wait-closed}
 use Rattle.rules.proofs.WaitRow.{rowEnd, Delayed, delayed}
-use Rattle.throttle.specs.declared.decision.View.{View}
-use Rattle.throttle.specs.Numbers.{gapsEnd, waitFrom, decideFrom, delayEnd, passiveFilter, viewOf}
+use Rattle.decision.specs.declared.View.{View}
+use Rattle.decision.specs.Numbers.{gapsEnd, waitFrom, decideFrom, delayEnd, passiveFilter, viewOf}
 
 -- a row that neither filter blacklists waits for the gaps only, whatever the history holds
 no-delay : (n end m d active other : ℕ) → active < n → other < n → closedTick n end m d active other ≡ m

@@ -4,11 +4,11 @@ use mathlib.Core.Bool.{_||_}
 use lib.Dec.{leb, ltb}
 use borrow.Author.Tests.{lt-ltb, le-ltb, le-leb, lt-leb}
 use Rattle.rules.specs.Decision.{firstFailing}
-use Rattle.throttle.specs.Numbers.{decideFrom}
-use Rattle.throttle.proofs.Numbers.{decide-tests}
+use Rattle.decision.specs.Numbers.{decideFrom}
+use Rattle.decision.proofs.Laws.{decide-tests}
 use borrow.Author.Needs.{needs}
-use Rattle.throttle.proofs.decision.decide.Statement.{statement}
-use Rattle.throttle.proofs.decision.decide.Tie as tie
+use Rattle.decision.proofs.decide.Statement.{statement}
+use Rattle.decision.proofs.decide.Tie as tie
 
 -- the decision, once the ends of the gaps and the wait tick are known
 tests : (c : tie.After-wait-tick) → decideFrom (c .before .before .before .before .before .before .before .args .s) (c .before .before .before .before .before .before .before .args .t) (c .before .before .before .before .before .before .before .args .v)

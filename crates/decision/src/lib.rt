@@ -5,7 +5,7 @@ use rules::Setting;
 ghost use mathlib.Core.Path.{_≡_};
 ghost use Prim.Native.Nat.{ℕ, _+_, _≤_, _<_, _^_, max, min};
 ghost use Rattle.rules.specs.Claims.{gapEnd, closedTick};
-ghost use Rattle.throttle.specs.Numbers.{decideFrom};
+ghost use Rattle.decision.specs.Numbers.{decideFrom};
 
 // What the decision looks at, read from the state turned to the request's tick.
 pub struct View {

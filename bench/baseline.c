@@ -1,0 +1,394 @@
+/*
+ * The throttle's four calls in plain C, as the yardstick of the benchmark. It
+ * makes the same tests as the library in every call and writes the same cells,
+ * for any contents of the memory. See baseline.h for the names.
+ */
+#include "baseline.h"
+
+#include <string.h>
+
+#ifndef BASE_PREFIX
+#define BASE_PREFIX base
+#endif
+#define JOIN_WORDS(prefix, call) prefix##_##call
+#define JOIN(prefix, call) JOIN_WORDS(prefix, call)
+#define DECLARE(prefix) BASE_DECLARE(prefix)
+
+DECLARE(BASE_PREFIX);
+
+enum { FILTER = 1024, BANK_COUNTERS = 2 * FILTER, BANK_HEAD = 2, RANK_HEAD = 18, IN_FLIGHT = 2 };
+
+/* An accepted setting and what follows from it. */
+struct rules {
+    uint64_t epoch; /* E */
+    uint64_t trc;
+    uint64_t tfaw;
+    uint64_t td;
+    uint32_t n;
+    uint32_t scale; /* D */
+    uint32_t q;
+    uint32_t banks;
+    uint32_t threads;
+    uint32_t history; /* H */
+};
+
+static int within(uint64_t x, uint64_t low, uint64_t high)
+{
+    return x >= low && x <= high;
+}
+
+static int fields_in_range(const uint64_t s[9])
+{
+    return within(s[0], 2, 1u << 30) && s[0] % 2 == 0 && within(s[1], 1, 65535) &&
+           within(s[2], 1, 65535) && within(s[3], 1, 32768) && within(s[4], 1, 1u << 29) &&
+           within(s[5], 1, 1u << 24) && within(s[6], 1, 255) && within(s[7], 1, 16) &&
+           within(s[8], 1, 32);
+}
+
+/* 1,023 is ten bits, so no seed is above it where their union is not. */
+static int seeds_in_range(const uint16_t *seeds, size_t len)
+{
+    uint16_t all = 0;
+    if (len != 64)
+        return 0;
+    for (size_t i = 0; i < 64; i++)
+        all |= seeds[i];
+    return all <= 1023;
+}
+
+/* Refusals 1 to 5; r is filled in where there is none. Numbers in range fit 32 bits. */
+static uint32_t setting_refusal(const uint64_t s[9], const uint16_t *seeds, size_t seeds_len,
+                                struct rules *r)
+{
+    if (!fields_in_range(s) || !seeds_in_range(seeds, seeds_len))
+        return 1;
+    uint32_t w = (uint32_t)s[0], trc = (uint32_t)s[1], tfaw = (uint32_t)s[2];
+    uint32_t n = (uint32_t)s[3], td = (uint32_t)s[4], l = (uint32_t)s[5];
+    uint32_t burst = 2 * n * trc;
+    if (w - 1 < burst)
+        return 2;
+    if (td < trc || td > w / 2)
+        return 3;
+    uint32_t history = 4 * ((td + tfaw - 1) / tfaw);
+    if (history > 4096)
+        return 4;
+    if (2 * n + 1 + (w - 1 - burst) / td > l)
+        return 5;
+    r->epoch = w / 2;
+    r->trc = trc;
+    r->tfaw = tfaw;
+    r->td = td;
+    r->n = n;
+    r->scale = l - n;
+    r->q = (uint32_t)s[6];
+    r->banks = (uint32_t)s[7];
+    r->threads = (uint32_t)s[8];
+    r->history = history;
+    return 0;
+}
+
+static int too_short(const struct rules *r, size_t counters_len, size_t ticks_len, size_t rows_len,
+                     size_t threads_len)
+{
+    return counters_len < (size_t)r->banks * BANK_COUNTERS || ticks_len < r->history ||
+           rows_len < r->history || threads_len < (size_t)r->banks * r->threads * 3;
+}
+
+/* A stored tick, 0 for none, is after the last tick. */
+static int after(uint64_t stored, uint64_t last)
+{
+    return stored != 0 && stored - 1 > last;
+}
+
+/* The top bit is clear only if none of the n cells from x on is above the cell after it. */
+static uint64_t falls(const uint64_t *x, size_t n)
+{
+    uint64_t bits = 0;
+    for (size_t i = 0; i < n; i++)
+        bits |= (x[i + 1] - x[i]) | x[i];
+    return bits;
+}
+
+/* One of the n cells from x on is above the cell after it. */
+static int falls_exactly(const uint64_t *x, size_t n)
+{
+    for (size_t i = 0; i < n; i++)
+        if (x[i] > x[i + 1])
+            return 1;
+    return 0;
+}
+
+/*
+ * The history is unsound: read from the oldest place (the next one to be
+ * written) on, around the ring, a stored tick is above the one after it, or
+ * the newest is after the last tick. No other tick is then after the last.
+ */
+static int history_unsound(const uint64_t *ticks, size_t h, size_t place, uint64_t last)
+{
+    uint64_t newest = ticks[(place == 0 ? h : place) - 1];
+    size_t young = place == 0 ? 0 : place - 1;
+    if (after(newest, last))
+        return 1;
+    if (place != 0 && ticks[h - 1] > ticks[0])
+        return 1;
+    uint64_t bits = falls(ticks + place, h - 1 - place) | falls(ticks, young);
+    if (bits >> 63 == 0)
+        return 0;
+    return falls_exactly(ticks + place, h - 1 - place) || falls_exactly(ticks, young);
+}
+
+/* Refusal 7. */
+static int memory_unsound(const struct rules *r, const uint64_t head[22], const uint64_t *ticks)
+{
+    uint64_t last = head[0];
+    int late = 0;
+    if (head[1] >= r->history)
+        return 1;
+    for (size_t b = 0; b < r->banks; b++)
+        late |= after(head[BANK_HEAD + b], last);
+    for (size_t k = 0; k < 4; k++)
+        late |= after(head[RANK_HEAD + k], last);
+    return late || history_unsound(ticks, r->history, head[1], last);
+}
+
+/* Refusals 1 to 9 of a call with a tick, a bank and a thread. */
+static uint32_t call_refusal(BASE_STATE, uint64_t tick, uint64_t bank, uint64_t thread,
+                             struct rules *r)
+{
+    uint32_t refused = setting_refusal(setting, seeds, seeds_len, r);
+    (void)counters, (void)rows, (void)threads;
+    if (refused != 0)
+        return refused;
+    if (too_short(r, counters_len, ticks_len, rows_len, threads_len))
+        return 6;
+    if (memory_unsound(r, head, ticks))
+        return 7;
+    if (bank >= r->banks || thread >= r->threads)
+        return 8;
+    if (tick < head[0] || tick >> 62 != 0)
+        return 9;
+    return 0;
+}
+
+/* Clears a filter and the index counters of its number, in all banks. */
+static void clear_filter(const struct rules *r, uint16_t *counters, uint32_t *threads,
+                         size_t filter)
+{
+    for (size_t b = 0; b < r->banks; b++)
+        memset(counters + b * BANK_COUNTERS + filter * FILTER, 0, FILTER * sizeof *counters);
+    for (size_t i = 0; i < (size_t)r->banks * r->threads; i++)
+        threads[3 * i + filter] = 0;
+}
+
+/* Moves the clock to the tick, clears what its epoch asks for, and returns that epoch. */
+static uint64_t move_clock(const struct rules *r, uint64_t head[22], uint16_t *counters,
+                           uint32_t *threads, uint64_t tick)
+{
+    uint64_t old = head[0] / r->epoch, now = old;
+    head[0] = tick;
+    if (tick - old * r->epoch >= r->epoch) {
+        now = tick / r->epoch;
+        clear_filter(r, counters, threads, old % 2);
+        if (now - old >= 2)
+            clear_filter(r, counters, threads, (old + 1) % 2);
+    }
+    return now;
+}
+
+static const uint16_t row_bits[16] = {
+    1u << 0, 1u << 1, 1u << 2,  1u << 3,  1u << 4,  1u << 5,  1u << 6,  1u << 7,
+    1u << 8, 1u << 9, 1u << 10, 1u << 11, 1u << 12, 1u << 13, 1u << 14, 1u << 15,
+};
+
+/* The row's four places in a filter: H3 hash functions. */
+static void hash(const uint16_t seeds[64], uint16_t row, uint16_t places[4])
+{
+    uint16_t set[16];
+    for (size_t i = 0; i < 16; i++)
+        set[i] = (row & row_bits[i]) != 0 ? 0xffff : 0;
+    for (size_t f = 0; f < 4; f++) {
+        uint16_t x = 0;
+        for (size_t i = 0; i < 16; i++)
+            x ^= seeds[16 * f + i] & set[i];
+        places[f] = x;
+    }
+}
+
+/* The least of the row's four counters in a filter. */
+static uint32_t estimate(const uint16_t *filter, const uint16_t places[4])
+{
+    uint16_t least = filter[places[0]];
+    for (size_t k = 1; k < 4; k++)
+        if (filter[places[k]] < least)
+            least = filter[places[k]];
+    return least;
+}
+
+/* Adds 1 to each distinct counter of the row below n: all are read before one is written. */
+static void count_row(uint16_t *filter, const uint16_t places[4], uint32_t n)
+{
+    uint32_t a = filter[places[0]], b = filter[places[1]];
+    uint32_t c = filter[places[2]], d = filter[places[3]];
+    filter[places[0]] = (uint16_t)(a + (a < n));
+    filter[places[1]] = (uint16_t)(b + (b < n));
+    filter[places[2]] = (uint16_t)(c + (c < n));
+    filter[places[3]] = (uint16_t)(d + (d < n));
+}
+
+/*
+ * The tick at which the row's newest activation is tD ticks old, or 0 if none
+ * is under tD ticks old. Newest first; the ticks never rise that way, so the
+ * first one that is too old ends the search, and so does an empty place.
+ */
+static uint64_t free_tick(const struct rules *r, const uint64_t head[22], const uint64_t *ticks,
+                          const uint32_t *rows, uint32_t word)
+{
+    uint64_t now = head[0] + 1, old = now > r->td ? now - r->td : 0;
+    size_t place = head[1];
+    for (size_t i = place; i-- > 0;) {
+        if (ticks[i] <= old)
+            return 0;
+        if (rows[i] == word)
+            return ticks[i] - 1 + r->td;
+    }
+    for (size_t i = r->history; i-- > place;) {
+        if (ticks[i] <= old)
+            return 0;
+        if (rows[i] == word)
+            return ticks[i] - 1 + r->td;
+    }
+    return 0;
+}
+
+/*
+ * The least tick at which bank, rank and row rules pass; ready is the least for
+ * bank and rank alone, black and black_next tell whether the row is
+ * blacklisted in this epoch and in the next. A row is free before the epoch
+ * after the next begins, since tD is at most an epoch.
+ */
+static uint64_t wait_tick(const struct rules *r, const uint64_t head[22], const uint64_t *ticks,
+                          const uint32_t *rows, uint32_t word, uint64_t epoch, uint64_t ready,
+                          int black, int black_next)
+{
+    uint64_t turn = (epoch + 1) * r->epoch;
+    if (ready < turn ? !black : !black_next)
+        return ready;
+    uint64_t free = free_tick(r, head, ticks, rows, word);
+    if (free <= ready)
+        return ready;
+    return ready < turn && !black_next && turn < free ? turn : free;
+}
+
+/* floor(Q x (D - min(c, D)) / D); the product is below 2^32. */
+static uint32_t quota(const struct rules *r, uint32_t c)
+{
+    return c >= r->scale ? 0 : r->q * (r->scale - c) / r->scale;
+}
+
+/* Writes an activation to head, history, filters and thread counters. */
+static void activate(const struct rules *r, uint64_t head[22], uint16_t *bank_counters,
+                     uint64_t *ticks, uint32_t *rows, uint32_t *cell, uint32_t word,
+                     const uint16_t places[4], int black)
+{
+    uint64_t stored = head[0] + 1;
+    size_t place = head[1];
+    ticks[place] = stored;
+    rows[place] = word;
+    head[1] = place + 1 == r->history ? 0 : place + 1;
+    head[BANK_HEAD + (word >> 16)] = stored;
+    for (size_t k = 3; k > 0; k--)
+        head[RANK_HEAD + k] = head[RANK_HEAD + k - 1];
+    head[RANK_HEAD] = stored;
+    count_row(bank_counters, places, r->n);
+    count_row(bank_counters + FILTER, places, r->n);
+    cell[IN_FLIGHT]++;
+    if (black) {
+        cell[0] += cell[0] < r->scale;
+        cell[1] += cell[1] < r->scale;
+    }
+}
+
+/* The tick from which a stored tick no longer holds a request back, or 0 for none. */
+static uint64_t later(uint64_t stored, uint64_t gap)
+{
+    return stored == 0 ? 0 : stored - 1 + gap;
+}
+
+uint32_t JOIN(BASE_PREFIX, setup)(BASE_STATE)
+{
+    struct rules r;
+    uint32_t refused = setting_refusal(setting, seeds, seeds_len, &r);
+    if (refused != 0)
+        return refused;
+    if (too_short(&r, counters_len, ticks_len, rows_len, threads_len))
+        return 6;
+    memset(head, 0, 22 * sizeof *head);
+    memset(counters, 0, (size_t)r.banks * BANK_COUNTERS * sizeof *counters);
+    memset(ticks, 0, r.history * sizeof *ticks);
+    memset(rows, 0, r.history * sizeof *rows);
+    memset(threads, 0, (size_t)r.banks * r.threads * 3 * sizeof *threads);
+    return 0;
+}
+
+uint32_t JOIN(BASE_PREFIX, request)(BASE_STATE, uint64_t tick, uint64_t bank, uint64_t thread,
+                                    uint16_t row, uint64_t out[2])
+{
+    struct rules r;
+    uint16_t places[4];
+    uint32_t refused = call_refusal(BASE_GIVEN, tick, bank, thread, &r);
+    if (refused != 0)
+        return refused;
+    uint64_t epoch = move_clock(&r, head, counters, threads, tick);
+    size_t active = epoch % 2;
+    uint32_t *cell = threads + (bank * r.threads + thread) * 3;
+    if (cell[IN_FLIGHT] >= quota(&r, cell[active])) {
+        out[0] = 4;
+        out[1] = 0;
+        return 0;
+    }
+    uint32_t word = (uint32_t)bank << 16 | row;
+    uint16_t *filters = counters + bank * BANK_COUNTERS;
+    hash(seeds, row, places);
+    int black = estimate(filters + active * FILTER, places) >= r.n;
+    int black_next = estimate(filters + (1 - active) * FILTER, places) >= r.n;
+    uint64_t bank_free = later(head[BANK_HEAD + bank], r.trc);
+    uint64_t rank_free = later(head[RANK_HEAD + 3], r.tfaw);
+    uint64_t ready = bank_free > rank_free ? bank_free : rank_free;
+    if (ready < tick)
+        ready = tick;
+    uint64_t u = wait_tick(&r, head, ticks, rows, word, epoch, ready, black, black_next);
+    out[0] = bank_free > tick ? 1 : rank_free > tick ? 2 : u > tick ? 3 : 0;
+    out[1] = u > tick ? u : 0;
+    if (u == tick)
+        activate(&r, head, filters, ticks, rows, cell, word, places, black);
+    return 0;
+}
+
+uint32_t JOIN(BASE_PREFIX, done)(BASE_STATE, uint64_t tick, uint64_t bank, uint64_t thread)
+{
+    struct rules r;
+    uint32_t refused = call_refusal(BASE_GIVEN, tick, bank, thread, &r);
+    if (refused != 0)
+        return refused;
+    uint32_t *flying = threads + (bank * r.threads + thread) * 3 + IN_FLIGHT;
+    if (*flying == 0)
+        return 10;
+    move_clock(&r, head, counters, threads, tick);
+    *flying -= 1;
+    return 0;
+}
+
+uint32_t JOIN(BASE_PREFIX, index)(BASE_STATE, uint64_t tick, uint64_t bank, uint64_t thread,
+                                  uint64_t out[3])
+{
+    struct rules r;
+    uint32_t refused = call_refusal(BASE_GIVEN, tick, bank, thread, &r);
+    if (refused != 0)
+        return refused;
+    uint64_t epoch = move_clock(&r, head, counters, threads, tick);
+    uint32_t c = threads[(bank * r.threads + thread) * 3 + epoch % 2];
+    out[0] = c;
+    out[1] = r.scale;
+    out[2] = quota(&r, c);
+    return 0;
+}

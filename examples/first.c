@@ -1,0 +1,67 @@
+/* First steps with the throttle: one row, asked for again and again under a tiny setting. */
+#include "throttle.h"
+
+#include <inttypes.h>
+#include <stdio.h>
+
+static uint64_t setting[THROTTLE_SETTING_WORDS];
+static uint16_t seeds[THROTTLE_SEEDS];
+static uint64_t head[THROTTLE_HEAD_CELLS];
+static uint16_t counters[THROTTLE_MOST_COUNTER_CELLS];
+static uint64_t ticks[THROTTLE_MOST_HISTORY_CELLS];
+static uint32_t rows[THROTTLE_MOST_HISTORY_CELLS];
+static uint32_t threads[THROTTLE_MOST_THREAD_CELLS];
+
+/* what every call is given first */
+#define STATE                                                                           \
+    setting, seeds, THROTTLE_SEEDS, head, counters, THROTTLE_MOST_COUNTER_CELLS, ticks, \
+        THROTTLE_MOST_HISTORY_CELLS, rows, THROTTLE_MOST_HISTORY_CELLS, threads,        \
+        THROTTLE_MOST_THREAD_CELLS
+
+static void request(uint64_t tick)
+{
+    static const char *const answers[] = {"opened", "wait for bank", "wait for rank",
+                                          "wait for row", "quota"};
+    uint64_t out[2];
+    uint32_t code = throttle_request(STATE, tick, 0, 0, 5, out);
+    printf("request at %" PRIu64 ": ", tick);
+    if (code != THROTTLE_ANSWERED)
+        printf("refused with %" PRIu32 "\n", code);
+    else if (out[1] != 0)
+        printf("%s until %" PRIu64 "\n", answers[out[0]], out[1]);
+    else
+        printf("%s\n", answers[out[0]]);
+}
+
+int main(void)
+{
+    struct throttle_setting s = {
+        .w = 40,
+        .trc = 1,
+        .tfaw = 4,
+        .n = 2,
+        .td = 6,
+        .l = 10,
+        .q = 4,
+        .banks = 1,
+        .threads = 1,
+    };
+    uint64_t reading[3];
+    for (unsigned f = 0; f < 4; f++)
+        for (unsigned i = 0; i < 16; i++)
+            seeds[16 * f + i] = (uint16_t)((37 * (i + 1) * (i + 1) + 211 * f + 89 * i * f) % 1024);
+    throttle_words(&s, setting);
+    printf("set-up: %" PRIu32 "\n", throttle_setup(STATE));
+    request(0);
+    request(1);
+    request(2);
+    request(7);
+    request(8);
+    if (throttle_index(STATE, 8, 0, 0, reading) == THROTTLE_ANSWERED)
+        printf("index at 8: c %" PRIu64 ", D %" PRIu64 ", quota %" PRIu64 "\n", reading[0],
+               reading[1], reading[2]);
+    printf("done at 8: %" PRIu32 "\n", throttle_done(STATE, 8, 0, 0));
+    request(8);
+    request(5);
+    return 0;
+}

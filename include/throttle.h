@@ -1,0 +1,244 @@
+/*
+ * The throttle: a model of one rank of DRAM in which no row is activated more
+ * than L times in any W successive ticks (the BlockHammer design). A simulator
+ * asks before it activates a row; the answer is "activate it now" or "not
+ * before tick u".
+ *
+ * The calls work on plain numbers and on memory of the caller. The library
+ * keeps no state of its own: it has no variables, allocates nothing and does no
+ * input or output. Several states may be used from several threads at once; two
+ * calls on the same state must not run at the same time. The setting and the
+ * seeds are only read and may be shared by all states.
+ *
+ * The steps of a program:
+ *   1. fill in a struct throttle_setting and 64 seeds,
+ *   2. lend a head and four buffers (see "Memory" below),
+ *   3. throttle_setup once,
+ *   4. throttle_request for each activation, throttle_done for each one that
+ *      is finished, throttle_index to look at a thread's standing.
+ * Every call gets the same setting, seeds and memory. A tick is never smaller
+ * than that of the call before. docs/c-interface.md has a worked example.
+ *
+ * Link with libthrottle.a (x86-64); it needs nothing beyond the C library.
+ */
+#ifndef THROTTLE_H
+#define THROTTLE_H
+
+#include <stddef.h>
+#include <stdint.h>
+
+#ifdef __cplusplus
+extern "C" {
+#endif
+
+/*
+ * The setting
+ *
+ * Ticks may be of any length; the figures of the documents are in quarter
+ * nanoseconds. A value outside its range is refused with 1, it is never cut.
+ */
+struct throttle_setting {
+    uint64_t w;       /* refresh window W: even, 2 to 2^30; an epoch E is W/2 */
+    uint64_t trc;     /* least gap of activations in one bank: 1 to 65,535 */
+    uint64_t tfaw;    /* at most four activations of the rank in any tFAW ticks: 1 to 65,535 */
+    uint64_t n;       /* blacklisting threshold N: 1 to 32,768 */
+    uint64_t td;      /* delay tD of a blacklisted row: 1 to 2^29 */
+    uint64_t l;       /* most activations L of a row in W ticks: 1 to 2^24 */
+    uint64_t q;       /* most requests Q in flight for a thread in a bank: 1 to 255 */
+    uint64_t banks;   /* 1 to 16, each of 65,536 rows */
+    uint64_t threads; /* 1 to 32 */
+};
+
+enum {
+    THROTTLE_SETTING_WORDS = 9,
+    THROTTLE_SEEDS = 64,     /* 16 for each of four hash functions, each 0 to 1,023 */
+    THROTTLE_HEAD_CELLS = 22,
+    THROTTLE_REQUEST_OUT = 2,
+    THROTTLE_INDEX_OUT = 3,
+    /* the most cells that an accepted setting uses */
+    THROTTLE_MOST_COUNTER_CELLS = 32768,
+    THROTTLE_MOST_HISTORY_CELLS = 4096,
+    THROTTLE_MOST_THREAD_CELLS = 1536
+};
+
+/*
+ * The calls take the setting as nine words in the order of the struct. This
+ * writes them and returns words. Do it once, and again after a change of s.
+ */
+static inline const uint64_t *throttle_words(const struct throttle_setting *s,
+                                             uint64_t words[THROTTLE_SETTING_WORDS])
+{
+    words[0] = s->w;
+    words[1] = s->trc;
+    words[2] = s->tfaw;
+    words[3] = s->n;
+    words[4] = s->td;
+    words[5] = s->l;
+    words[6] = s->q;
+    words[7] = s->banks;
+    words[8] = s->threads;
+    return words;
+}
+
+/*
+ * Memory
+ *
+ *   head      64 bits  22 cells
+ *   counters  16 bits  throttle_counter_cells   two counting Bloom filters of each bank
+ *   ticks     64 bits  throttle_history_cells   history buffer: when
+ *   rows      32 bits  throttle_history_cells   history buffer: which row
+ *   threads   32 bits  throttle_thread_cells    three counters of each thread in each bank
+ *
+ * A length counts cells, not bytes. A buffer may be longer than needed: the
+ * cells after the used part are neither read nor written. A pointer is never
+ * null, also with length 0, and is aligned for its cells.
+ *
+ * No byte of one buffer may lie in another, in the head, in out, in the
+ * setting or in the seeds. If one does, nothing is promised.
+ *
+ * The cells, for programs that look at them or save a state:
+ *   head[0]         last tick
+ *   head[1]         next history place
+ *   head[2 + bank]  stored tick of the bank's last activation
+ *   head[18 + age]  stored ticks of the rank's last four, newest first
+ *   counters[bank * 2048 + filter * 1024 + place]
+ *   ticks[place]    stored tick of an activation
+ *   rows[place]     bank * 65,536 + row of that activation
+ *   threads[(bank * number of threads + thread) * 3 + k]
+ *                   k 0 and 1: index counters of filter 0 and 1, k 2: in flight
+ * A stored tick is the tick plus one, 0 means none. The last tick is stored as
+ * it is. Copying all five copies the state; the copy goes on by itself.
+ */
+
+/* Cells of counters, banks x 2,048; 0 if the number of banks is out of range. */
+static inline size_t throttle_counter_cells(const struct throttle_setting *s)
+{
+    if (s->banks < 1 || s->banks > 16)
+        return 0;
+    return (size_t)s->banks * 2048;
+}
+
+/*
+ * Cells of ticks and of rows, H = 4 x ceil(tD / tFAW); 0 if tD or tFAW is out
+ * of range. More than 4,096 cells are refused with 4.
+ */
+static inline size_t throttle_history_cells(const struct throttle_setting *s)
+{
+    if (s->tfaw < 1 || s->tfaw > 65535 || s->td < 1 || s->td > 536870912)
+        return 0;
+    return (size_t)(4 * ((s->td + s->tfaw - 1) / s->tfaw));
+}
+
+/* Cells of threads, banks x threads x 3; 0 if one of the two is out of range. */
+static inline size_t throttle_thread_cells(const struct throttle_setting *s)
+{
+    if (s->banks < 1 || s->banks > 16 || s->threads < 1 || s->threads > 32)
+        return 0;
+    return (size_t)(s->banks * s->threads * 3);
+}
+
+/*
+ * Return values
+ *
+ * 0 means answered, any other number is a refusal. A refused call changes
+ * nothing: head, buffers and out are as before, and the clock has not moved.
+ * The tests are made in the order of the numbers and the first that fails is
+ * returned. 1 to 5 concern the setting and are tested in every call; set-up
+ * tests 1 to 6, request and index 1 to 9, done 1 to 10.
+ */
+enum throttle_refusal {
+    THROTTLE_ANSWERED = 0,
+    THROTTLE_OUT_OF_RANGE = 1,     /* a field or seed out of range, W odd, or not 64 seeds */
+    THROTTLE_SHORT_WINDOW = 2,     /* W - 1 < 2 x N x tRC */
+    THROTTLE_BAD_DELAY = 3,        /* tD below tRC or above E */
+    THROTTLE_LONG_HISTORY = 4,     /* H above 4,096 */
+    THROTTLE_ABOVE_LIMIT = 5,      /* B > L, with B = 2N + 1 + floor((W - 1 - 2 x N x tRC) / tD) */
+    THROTTLE_SHORT_BUFFER = 6,     /* a buffer has fewer cells than the setting uses */
+    THROTTLE_BAD_MEMORY = 7,       /* next history place of H or more, a stored tick after the
+                                      last tick, or stored history ticks that rise anywhere
+                                      when read from the newest place back */
+    THROTTLE_OUTSIDE_SETTING = 8,  /* bank or thread not below the setting's number of them */
+    THROTTLE_BAD_TICK = 9,         /* tick before the last one, or 2^62 or more */
+    THROTTLE_NONE_IN_FLIGHT = 10   /* done, and the thread has none in flight in this bank */
+};
+
+/*
+ * A state made by throttle_setup and changed only by these calls, with the
+ * same setting and buffers, is never refused with 6 or 7. Memory with any
+ * other contents that passes the test of 7 is worked on as it is found.
+ */
+
+/* The answer to a request, out[0]: the first rule that fails of quota, bank, rank and row. */
+enum throttle_answer {
+    THROTTLE_OPENED = 0,    /* the row is activated at this tick */
+    THROTTLE_WAIT_BANK = 1, /* under tRC ticks since the bank's last activation */
+    THROTTLE_WAIT_RANK = 2, /* under tFAW ticks since the rank's fourth last activation */
+    THROTTLE_WAIT_ROW = 3,  /* the row is blacklisted and was activated under tD ticks ago */
+    THROTTLE_QUOTA = 4      /* the thread has its quota in flight in this bank, or its quota is 0 */
+};
+
+/*
+ * Set-up: clears the head and the used parts of the buffers, whatever they
+ * hold. Last tick and next history place are then 0.
+ *
+ * seeds: function by function, 16 each, that of bit 0 of the row first.
+ */
+uint32_t throttle_setup(const uint64_t setting[9], const uint16_t *seeds, size_t seeds_len,
+                        uint64_t head[22], uint16_t *counters, size_t counters_len,
+                        uint64_t *ticks, size_t ticks_len, uint32_t *rows, size_t rows_len,
+                        uint32_t *threads, size_t threads_len);
+
+/*
+ * Asks to activate a row at a tick. out[0] is the answer.
+ *
+ * 1, 2 and 3: out[1] is the least tick at which the rules of bank, rank and
+ * row would all pass if no call came between; it is greater than tick. Ask
+ * again then; the answer may be another wait if other requests were opened
+ * in between, or quota.
+ *
+ * 4: out[1] is 0. There is no tick to wait for: ask again after a done of this
+ * thread in this bank, or in the next epoch.
+ *
+ * 0: out[1] is 0. The activation is counted, stands in the history and is in
+ * flight until throttle_done. Nothing else adds to the state; a wait or a
+ * quota answer only moves the clock.
+ *
+ * Every answered call moves the clock: the last tick becomes its tick. On
+ * entering a new epoch (tick / E) the filter counters and index counters that
+ * the old epoch tested are cleared, in all banks; if two or more epochs have
+ * passed, all of them. In flight is not cleared.
+ */
+uint32_t throttle_request(const uint64_t setting[9], const uint16_t *seeds, size_t seeds_len,
+                          uint64_t head[22], uint16_t *counters, size_t counters_len,
+                          uint64_t *ticks, size_t ticks_len, uint32_t *rows, size_t rows_len,
+                          uint32_t *threads, size_t threads_len,
+                          uint64_t tick, uint64_t bank, uint64_t thread, uint16_t row,
+                          uint64_t out[2]);
+
+/*
+ * Reports that one of the thread's activations in the bank is finished: moves
+ * the clock and takes 1 from in flight.
+ */
+uint32_t throttle_done(const uint64_t setting[9], const uint16_t *seeds, size_t seeds_len,
+                       uint64_t head[22], uint16_t *counters, size_t counters_len,
+                       uint64_t *ticks, size_t ticks_len, uint32_t *rows, size_t rows_len,
+                       uint32_t *threads, size_t threads_len,
+                       uint64_t tick, uint64_t bank, uint64_t thread);
+
+/*
+ * Reads the RowHammer likelihood index of a thread in a bank, c/D, and moves
+ * the clock: out[0] is c, the activations of blacklisted rows counted in the
+ * counter under test, out[1] is D = L - N, at which c stops, out[2] is the
+ * quota floor(Q x (D - min(c, D)) / D).
+ */
+uint32_t throttle_index(const uint64_t setting[9], const uint16_t *seeds, size_t seeds_len,
+                        uint64_t head[22], uint16_t *counters, size_t counters_len,
+                        uint64_t *ticks, size_t ticks_len, uint32_t *rows, size_t rows_len,
+                        uint32_t *threads, size_t threads_len,
+                        uint64_t tick, uint64_t bank, uint64_t thread, uint64_t out[3]);
+
+#ifdef __cplusplus
+}
+#endif
+
+#endif
