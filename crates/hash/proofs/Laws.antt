@@ -2,10 +2,11 @@
 use mathlib.Core.Path.{_≡_, sym, ap, _∙_, subst}
 use mathlib.Core.List.{List, [], _∷_}
 use mathlib.Core.Bool.{true, cond}
-use Prim.Native.Nat.{ℕ, _+_, _*_, _/_, _%_, _^_, _<_}
+use Prim.Native.Nat.{ℕ, zero, suc, _+_, _*_, _/_, _%_, _^_, _≤_, _<_}
 use native.Mathlib.Numerals.{add-one}
-use native.Mathlib.Nat.{div-div-eq-div-mul, pow-suc}
-use lib.Dec.{eqb}
+use native.Mathlib.Nat.{div-div-eq-div-mul, pow-suc, mod-lt}
+use native.Mathlib.Omega.{arith}
+use lib.Dec.{eqb, lit<}
 use lib.Bits.{bitXor}
 use lib.ListN.{length, getD}
 use Rattle.rules.specs.Setting.{seedsInRange}
@@ -44,3 +45,12 @@ four-places seeds row a b c d ea eb ec ed = rw (ea, eb, ec, ed)
 -- and are within a filter
 pub within : (seeds at : List ℕ) (row : ℕ) → seedsInRange seeds ≡ true → at ≡ places seeds row → Within at
 within seeds at row ok e = subst (λ l. Within l) (sym e) (places-within seeds (holds (seedsInRange seeds) ok) row)
+
+-- a product with the lowest bit of a row
+pub bit-times : (row seed : ℕ) → (row % 2 * seed ≡ cond (eqb (row % 2) 1) seed 0) × (row % 2 * seed ≤ seed)
+bit-times row seed = go (row % 2) (mod-lt row (lit< tt))
+  where
+    go : (b : ℕ) → b < 2 → (b * seed ≡ cond (eqb b 1) seed 0) × (b * seed ≤ seed)
+    go zero h = (omega arith, omega arith)
+    go (suc zero) h = (omega arith, omega arith)
+    go (suc (suc b)) h = absurd (omega arith)

@@ -7,11 +7,11 @@ ghost use Rattle.rules.specs.Setting.{seedsInRange};
 ghost use Rattle.rules.specs.Hash.{hash, places};
 ghost use Rattle.rules.specs.Filter.{Within};
 
-// The seed, where the lowest bit of the row is set; else 0.
+// The seed, where the lowest bit of the row is set; else 0. It is a product, so that no branch depends on the row.
 fn chosen(row: u16, seed: u16) -> u16
     ensures { λ r. ⌜ r ≡ cond (eqb (row % 2) 1) seed 0 ⌝ }
 {
-    if row % 2 == 1 { seed } else { 0 }
+    row % 2 * seed
 }
 
 // Function f of a row: the exclusive or of its seeds i for which bit i of the row is set. Bit i is the lowest of the row halved i times.

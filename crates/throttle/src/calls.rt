@@ -46,7 +46,8 @@ pub fn request(
     requires { ⌜ callRefusal document01 s (now seeds) (state h (now counters) (now ticks) (now rows) (now threads)) tick bank thread ≡ none ⌝ }
     ensures { λ r. ⌜ (outcome (answered (r .answer)) (state (r .head) (now (counters .exit)) (now (ticks .exit)) (now (rows .exit)) (now (threads .exit))) ≡ requested document01 s (λ f. places (now (seeds .entry)) row) (turned s (state h (now (counters .entry)) (now (ticks .entry)) (now (rows .entry)) (now (threads .entry))) tick) bank thread row) × Sound s (state (r .head) (now (counters .exit)) (now (ticks .exit)) (now (rows .exit)) (now (threads .exit))) ⌝ }
 {
-    let moved = turn(s, h, counters, threads, tick);
+    let x = turn(s, h, counters, threads, tick);
+    let moved = x.head;
     let four = hash::places(seeds, row);
     let v = look(
         s,
@@ -59,6 +60,7 @@ pub fn request(
         bank,
         thread,
         row,
+        x.epoch,
     );
     let answer = decide(s, tick, v);
     if answer_number(answer) != 0 {
@@ -93,12 +95,13 @@ pub fn done(
     bank: u64,
     thread: u64,
 ) -> Head
-    requires { ⌜ Bounds s × (countersUsed s ≤ length (now counters)) × (threadsUsed s ≤ length (now threads)) × (bank < s .banks) × (thread < s .threads) × (1 ≤ getD (now threads) (threadCell s bank thread 2) 0) ⌝ }
+    requires { ⌜ Bounds s × (countersUsed s ≤ length (now counters)) × (threadsUsed s ≤ length (now threads)) × (bank < s .banks) × (thread < s .threads) × (1 ≤ getD (now threads) (threadCell s bank thread 2) 0) × (h .last ≤ tick) ⌝ }
     ensures { λ r. ⌜ (r ≡ movedHead h tick) × (now (counters .exit) ≡ turnedCounters (countersUsed s) (epoch s (h .last)) (epoch s tick) (now (counters .entry))) × (now (threads .exit) ≡ oneLess s bank thread (turnedThreads (threadsUsed s) (epoch s (h .last)) (epoch s tick) (now (threads .entry)))) ⌝ }
 {
-    let moved = turn(s, h, counters, threads, tick);
+    let x = turn(s, h, counters, threads, tick);
+    let head = x.head;
     quota::finish(threads, s, bank, thread);
-    moved
+    head
 }
 
 // The RowHammer likelihood index of a thread in a bank: its counter in test, its full scale and the quota, with the head after the reading.
@@ -118,12 +121,12 @@ pub fn index(
     bank: u64,
     thread: u64,
 ) -> Shown
-    requires { ⌜ Bounds s × (countersUsed s ≤ length (now counters)) × (threadsUsed s ≤ length (now threads)) × (bank < s .banks) × (thread < s .threads) ⌝ }
+    requires { ⌜ Bounds s × (countersUsed s ≤ length (now counters)) × (threadsUsed s ≤ length (now threads)) × (bank < s .banks) × (thread < s .threads) × (h .last ≤ tick) ⌝ }
     ensures { λ r. ⌜ (r .head ≡ movedHead h tick) × (now (counters .exit) ≡ turnedCounters (countersUsed s) (epoch s (h .last)) (epoch s tick) (now (counters .entry))) × (now (threads .exit) ≡ turnedThreads (threadsUsed s) (epoch s (h .last)) (epoch s tick) (now (threads .entry))) × (r .c ≡ indexCounter s (now (threads .exit)) bank thread (activeFilter s tick)) × (r .scale ≡ indexScale s) × (r .quota ≡ quotaDown s (r .c)) ⌝ }
 {
-    let head = turn(s, h, counters, threads, tick);
-    let length = s.w / 2;
-    let f = (tick / length % 2) as usize;
+    let x = turn(s, h, counters, threads, tick);
+    let head = x.head;
+    let f = (x.epoch % 2) as usize;
     let cell = quota::cell(s, bank, thread);
     let c = threads[cell + f];
     let quota = quota::quota(s, c);

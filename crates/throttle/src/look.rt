@@ -9,6 +9,7 @@ ghost use Prim.Native.Nat.{ℕ, _+_, _*_, _≤_, _<_, _^_};
 ghost use lib.Dec.{ltb};
 ghost use lib.ListN.{length, getD};
 ghost use Rattle.rules.specs.Setting.{historyLength};
+ghost use Rattle.rules.specs.Clock.{epoch};
 ghost use Rattle.rules.specs.Filter.{Within};
 ghost use Rattle.rules.proofs.Memory.{Memory};
 ghost use Rattle.throttle.specs.Left.{state};
@@ -51,6 +52,7 @@ fn delay(
     history::delay_end(ticks, found, places, s.td)
 }
 
+// Reads the view of a row; e is the epoch of the last tick.
 pub fn look(
     s: Setting,
     h: Head,
@@ -62,12 +64,12 @@ pub fn look(
     bank: u64,
     thread: u64,
     row: u16,
+    e: u64,
 ) -> View
-    requires { ⌜ Ready s (state h (now counters) (now ticks) (now rows) (now threads)) bank thread × Within four ⌝ }
+    requires { ⌜ Ready s (state h (now counters) (now ticks) (now rows) (now threads)) bank thread × Within four × (e ≡ epoch s (h .last)) ⌝ }
     ensures { λ r. ⌜ r ≡ viewOf s four (state h (now (counters .entry)) (now (ticks .entry)) (now (rows .entry)) (now (threads .entry))) bank thread row ⌝ }
 {
     let length = s.w / 2;
-    let e = h.last / length;
     let f = (e % 2) as usize;
     let b = bank as usize;
     let active = filter::bank_estimate(counters, b, four, f) as u64;

@@ -4,7 +4,7 @@ use rules::Setting;
 ghost use mathlib.Core.Path.{_≡_};
 ghost use mathlib.Core.Bool.{Bool};
 ghost use mathlib.Core.List.{List};
-ghost use Prim.Native.Nat.{ℕ, _+_, _*_, _≤_, _<_};
+ghost use Prim.Native.Nat.{_*_, _/_, _≤_, _<_};
 ghost use lib.ListN.{length, getD};
 ghost use Rattle.rules.specs.State.{countersUsed, threadsUsed, threadCell, rowWord};
 ghost use Rattle.rules.specs.Clock.{epoch, turnedCounters, turnedThreads, movedHead};
@@ -21,17 +21,38 @@ pub fn row_word(bank: u64, row: u16) -> u32
     bank as u32 * 65536 + row as u32
 }
 
+// The epoch of a tick that is not before the start of epoch e. Most calls stay within an epoch and divide no second time.
+fn epoch_from(tick: u64, e: u64, length: u64) -> u64
+    requires { ⌜ (1 ≤ length) × (e * length ≤ tick) ⌝ }
+    ensures { λ r. ⌜ r ≡ tick / length ⌝ }
+{
+    if tick - e * length < length {
+        e
+    } else {
+        tick / length
+    }
+}
+
+// The head with its clock moved, and the epoch of its last tick.
+pub struct Turned {
+    pub head: Head,
+    pub epoch: u64,
+}
+
 // The clock moved to a tick: clears what an epoch's turn clears, and gives the head.
-pub fn turn(s: Setting, h: Head, counters: &mut [u16], threads: &mut [u32], tick: u64) -> Head
-    requires { ⌜ Bounds s × (countersUsed s ≤ length (now counters)) × (threadsUsed s ≤ length (now threads)) ⌝ }
-    ensures { λ r. ⌜ (r ≡ movedHead h tick) × (now (counters .exit) ≡ turnedCounters (countersUsed s) (epoch s (h .last)) (epoch s tick) (now (counters .entry))) × (now (threads .exit) ≡ turnedThreads (threadsUsed s) (epoch s (h .last)) (epoch s tick) (now (threads .entry))) ⌝ }
+pub fn turn(s: Setting, h: Head, counters: &mut [u16], threads: &mut [u32], tick: u64) -> Turned
+    requires { ⌜ Bounds s × (countersUsed s ≤ length (now counters)) × (threadsUsed s ≤ length (now threads)) × (h .last ≤ tick) ⌝ }
+    ensures { λ r. ⌜ (r .head ≡ movedHead h tick) × (now (counters .exit) ≡ turnedCounters (countersUsed s) (epoch s (h .last)) (epoch s tick) (now (counters .entry))) × (now (threads .exit) ≡ turnedThreads (threadsUsed s) (epoch s (h .last)) (epoch s tick) (now (threads .entry))) × (r .epoch ≡ epoch s tick) ⌝ }
 {
     let length = s.w / 2;
     let from = h.last / length;
-    let to = tick / length;
+    let to = epoch_from(tick, from, length);
     filter::turn(counters, s.banks as usize, from, to);
     quota::turn(threads, (s.banks * s.threads * 3) as usize, from, to);
-    h.moved(tick)
+    Turned {
+        head: h.moved(tick),
+        epoch: to,
+    }
 }
 
 // An activation at the last tick: counts the row, records it, and gives the head. black says whether the row was blacklisted.

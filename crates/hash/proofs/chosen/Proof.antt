@@ -1,13 +1,16 @@
--- `hash::chosen` meets its contract: the test of the code is the definition's.
-use borrow.Author.Tests.{eq-eqb, ne-eqb}
+-- `hash::chosen` meets its contract: a product with the lowest bit is the seed or 0.
+use native.Mathlib.Omega.{arith}
+use Rattle.hash.proofs.Laws.{bit-times}
 use Rattle.hash.proofs.chosen.Statement.{statement}
 use Rattle.hash.proofs.chosen.Tie as tie
 
-returns : tie.Need-returns
-returns c = simp (eq-eqb _ _ (c .if1 .taken))
+mul-result : tie.Need-mul-result
+mul-result c =
+    let b = bit-times (c .args .row) (c .args .seed) in
+    omega arith
 
-returns-2 : tie.Need-returns-2
-returns-2 c = simp (ne-eqb _ _ (c .if1 .left))
+returns : tie.Need-returns
+returns c = bit-times (c .args .row) (c .args .seed) .0
 
 pub chosen-spec : {M : Type 1} → statement M
-chosen-spec = tie.close (tie.spec returns returns-2)
+chosen-spec = tie.close (tie.spec mul-result returns)

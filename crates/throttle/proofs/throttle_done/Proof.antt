@@ -72,7 +72,7 @@ returns c =
 done-requires : tie.Need-done-requires
 done-requires c κs =
     let k = ok (c .before .before) .0 in
-    (bounds (k .setting), k .long .counters, k .long .threads, k .bank-in, k .thread-in, ok (c .before .before) .1)
+    (bounds (k .setting), k .long .counters, k .long .threads, k .bank-in, k .thread-in, ok (c .before .before) .1, k .later)
 
 store-head-requires : tie.Need-store-head-requires
 store-head-requires c κs = search needs

@@ -65,7 +65,7 @@ returns c =
 index-requires : tie.Need-index-requires
 index-requires c κs =
     let k = ok (c .before .before) in
-    (bounds (k .setting), k .long .counters, k .long .threads, k .bank-in, k .thread-in)
+    (bounds (k .setting), k .long .counters, k .long .threads, k .bank-in, k .thread-in, k .later)
 
 store-head-requires : tie.Need-store-head-requires
 store-head-requires c κs = search needs

@@ -9,15 +9,17 @@ use Rattle.throttle.proofs.calls.done.Statement.{statement}
 use Rattle.throttle.proofs.calls.done.Tie as tie
 
 turn-requires : tie.Need-turn-requires
-turn-requires c κs = search needs
+turn-requires c κs =
+    let p = c .before .before .before .before .pre in
+    (p .0, p .1, p .2, p .6)
 
 finish-requires : tie.Need-finish-requires
 finish-requires c κs =
-    let a = c .before .before .before .before .before .before .before .before .before .before .args in
-    let p = c .before .before .before .before .before .before .before .before .before .before .pre in
-    let e = c .before .before .before .before .before .turn .ensures .2 in
+    let a = c .before .before .before .before .before .before .before .before .before .before .before .args in
+    let p = c .before .before .before .before .before .before .before .before .before .before .before .pre in
+    let e = c .before .before .before .before .before .before .turn .ensures .2 in
     let kept = turned-flying (a .s) (a .bank) (a .thread) (epoch (a .s) (a .h .last)) (epoch (a .s) (a .tick)) (a .threads .now) in
-    (p .3, p .4, p .0 .banks, p .0 .threads, omega (arith, p .2, c .before .before .before .before .before .turn .kept .1 .1 .1 .0), rw e (rw kept (p .5)))
+    (p .3, p .4, p .0 .banks, p .0 .threads, omega (arith, p .2, c .before .before .before .before .before .before .turn .kept .1 .1 .1 .0), rw e (rw kept (p .5)))
 
 same-length : tie.Need-same-length
 same-length c = search needs
@@ -28,8 +30,8 @@ same-length-2 c = search needs
 returns : tie.Need-returns
 unfolding oneLess
 returns c =
-    let e = c .before .before .before .before .before .before .before .before .turn .ensures .2 in
-    (c .before .before .before .before .before .before .before .before .turn .ensures .0, c .before .before .before .before .before .before .before .before .turn .ensures .1, rw e at (c .before .before .finish .ensures))
+    let e = c .before .before .before .before .before .before .before .before .before .turn .ensures .2 in
+    (c .before .before .before .before .before .before .before .before .before .turn .ensures .0, c .before .before .before .before .before .before .before .before .before .turn .ensures .1, rw e at (c .before .before .finish .ensures))
 
 pub done-spec : {M : Type 1} → statement M
 done-spec =

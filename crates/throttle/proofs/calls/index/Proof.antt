@@ -10,10 +10,9 @@ use Rattle.throttle.proofs.calls.index.Statement.{statement}
 use Rattle.throttle.proofs.calls.index.Tie as tie
 
 turn-requires : tie.Need-turn-requires
-turn-requires c κs = search needs
-
-div-f : tie.Need-div-f
-div-f c = search needs
+turn-requires c κs =
+    let p = c .before .before .before .before .pre in
+    (p .0, p .1, p .2, p .5)
 
 cell-requires : tie.Need-cell-requires
 cell-requires c κs = search needs
@@ -32,11 +31,11 @@ quota-requires c κs = search needs
 
 cast-t18 : tie.Need-cast-t18
 cast-t18 c =
-    let a = c .before .before .before .before .before .before .before .before .before .before .before .before .before .args in
-    omega (arith, c .before .slice-known5 .given (c .before .before .cell .result + a .tick / (a .s .w / 2) % 2))
+    let a = c .before .before .before .before .before .before .before .before .before .before .before .before .before .before .args in
+    omega (arith, c .before .slice-known5 .given (c .before .before .cell .result + c .before .before .before .before .before .before .before .before .before .turn .result .epoch % 2))
 
-sub-t19 : tie.Need-sub-t19
-sub-t19 c = search needs
+sub-t23 : tie.Need-sub-t23
+sub-t23 c = search needs
 
 same-length : tie.Need-same-length
 same-length c = search needs
@@ -46,24 +45,24 @@ same-length-2 c = search needs
 
 returns : tie.Need-returns
 returns c =
-    let a = c .before .before .before .before .before .before .before .before .before .before .before .before .before .before .args in
-    let f = a .tick / (a .s .w / 2) % 2 in
-    let e = cell-at (a .s) (a .bank) (a .thread) (c .before .before .before .cell .result) f (c .before .before .before .cell .ensures .0) in
-    (c .before .before .before .before .before .before .before .before .before .turn .ensures .0, c .before .before .before .before .before .before .before .before .before .turn .ensures .1, c .before .before .before .before .before .before .before .before .before .turn .ensures .2, ap (λ x. getD (c .before .before .before .before .before .before .before .before .before .turn .last .1 .1 .1 .0) x 0) e, refl, c .before .quota .ensures .0)
+    let a = c .before .before .before .before .before .before .before .before .before .before .before .before .before .before .before .args in
+    let x = c .before .before .before .before .before .before .before .before .before .before .turn .result .epoch % 2 in
+    let e = cell-at (a .s) (a .bank) (a .thread) (c .before .before .before .cell .result) x (c .before .before .before .cell .ensures .0) in
+    let f = ap (λ e. threadCell (a .s) (a .bank) (a .thread) (e % 2)) (c .before .before .before .before .before .before .before .before .before .before .turn .ensures .3) in
+    (c .before .before .before .before .before .before .before .before .before .before .turn .ensures .0, c .before .before .before .before .before .before .before .before .before .before .turn .ensures .1, c .before .before .before .before .before .before .before .before .before .before .turn .ensures .2, ap (λ x. getD (c .before .before .before .before .before .before .before .before .before .before .turn .last .1 .1 .1 .0) x 0) (e ∙ f), refl, c .before .quota .ensures .0)
 
 pub index-spec : {M : Type 1} → statement M
 index-spec =
     tie.close
     (tie.spec
     turn-requires
-    div-f
     cell-requires
     add-c
     mul-c
     slice-read-c
     quota-requires
     cast-t18
-    sub-t19
+    sub-t23
     same-length
     same-length-2
     returns)

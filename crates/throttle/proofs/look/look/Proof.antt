@@ -13,17 +13,14 @@ use Rattle.throttle.proofs.look.look.Statement.{statement}
 use Rattle.throttle.proofs.look.look.Tie as tie
 
 abbrev at-entry : tie.After-cell → State
-at-entry c = let a = c .before .before .before .before .before .before .before .before .before .args in state (a .h) (a .counters .now) (a .ticks .now) (a .rows .now) (a .threads .now)
+at-entry c = let a = c .before .before .before .before .before .before .before .before .args in state (a .h) (a .counters .now) (a .ticks .now) (a .rows .now) (a .threads .now)
 
 -- the thread's three cells lie in the used part, which is small
-in-cells : (c : tie.After-cell) → (c .cell .result + 3 ≤ 1536) × (c .cell .result + 3 ≤ length (c .before .before .before .before .before .before .before .before .before .args .threads .now))
+in-cells : (c : tie.After-cell) → (c .cell .result + 3 ≤ 1536) × (c .cell .result + 3 ≤ length (c .before .before .before .before .before .before .before .before .args .threads .now))
 in-cells c =
-    let r = c .before .before .before .before .before .before .before .before .before .pre .0 in
-    let k = cells-small (c .before .before .before .before .before .before .before .before .before .args .s .banks) (c .before .before .before .before .before .before .before .before .before .args .s .threads) (r .bounds .banks) (r .bounds .threads) in
+    let r = c .before .before .before .before .before .before .before .before .pre .0 in
+    let k = cells-small (c .before .before .before .before .before .before .before .before .args .s .banks) (c .before .before .before .before .before .before .before .before .args .s .threads) (r .bounds .banks) (r .bounds .threads) in
     (omega (arith, c .cell .ensures .1), omega (arith, c .cell .ensures .1, r .long .threads))
-
-div-e : tie.Need-div-e
-div-e c = search needs
 
 bank-estimate-requires : tie.Need-bank-estimate-requires
 bank-estimate-requires c κs = search needs
@@ -70,7 +67,7 @@ quota-requires c κs = search needs
 
 delay-requires : tie.Need-delay-requires
 delay-requires c κs =
-    let r = c .before .before .before .before .before .before .before .before .before .before .before .before .before .before .pre .0 in
+    let r = c .before .before .before .before .before .before .before .before .before .before .before .before .before .pre .0 in
     (r .bounds, r .memory, r .long .ticks, r .long .rows, omega (arith, r .bank-in, r .bounds .banks), r .early)
 
 cast-t24 : tie.Need-cast-t24
@@ -87,26 +84,27 @@ array-read-t36 c = search needs
 
 add-t37 : tie.Need-add-t37
 add-t37 c =
-    let r = c .before .before .before .before .before .before .before .before .before .before .before .before .before .before .before .pre .0 in
-    omega (arith, div-le-self (c .before .before .before .before .before .before .before .before .before .before .before .before .before .before .before .args .h .last) (c .before .before .before .before .before .before .before .before .before .before .before .before .before .before .before .args .s .w / 2), r .early)
+    let r = c .before .before .before .before .before .before .before .before .before .before .before .before .before .before .pre .0 in
+    let e : c .before .before .before .before .before .before .before .before .before .before .before .before .before .before .args .e ≡ c .before .before .before .before .before .before .before .before .before .before .before .before .before .before .args .h .last / (c .before .before .before .before .before .before .before .before .before .before .before .before .before .before .args .s .w / 2) = c .before .before .before .before .before .before .before .before .before .before .before .before .before .before .pre .2 in
+    omega (arith, div-le-self (c .before .before .before .before .before .before .before .before .before .before .before .before .before .before .args .h .last) (c .before .before .before .before .before .before .before .before .before .before .before .before .before .before .args .s .w / 2), r .early)
 
 mul-t38 : tie.Need-mul-t38
 mul-t38 c =
-    let r = c .before .before .before .before .before .before .before .before .before .before .before .before .before .before .before .pre .0 in
-    omega (arith, end-small (c .before .before .before .before .before .before .before .before .before .before .before .before .before .before .before .args .h .last) (c .before .before .before .before .before .before .before .before .before .before .before .before .before .before .before .args .s .w / 2) (omega (arith, r .bounds .w-high)) (r .early))
+    let r = c .before .before .before .before .before .before .before .before .before .before .before .before .before .before .pre .0 in
+    let e : c .before .before .before .before .before .before .before .before .before .before .before .before .before .before .args .e ≡ c .before .before .before .before .before .before .before .before .before .before .before .before .before .before .args .h .last / (c .before .before .before .before .before .before .before .before .before .before .before .before .before .before .args .s .w / 2) = c .before .before .before .before .before .before .before .before .before .before .before .before .before .before .pre .2 in
+    rw e (omega (arith, end-small (c .before .before .before .before .before .before .before .before .before .before .before .before .before .before .args .h .last) (c .before .before .before .before .before .before .before .before .before .before .before .before .before .before .args .s .w / 2) (omega (arith, r .bounds .w-high)) (r .early)))
 
 returns : tie.Need-returns
 returns c =
-    let a = c .before .before .before .before .before .before .before .before .before .before .before .before .before .before .before .args in
+    let a = c .before .before .before .before .before .before .before .before .before .before .before .before .before .before .args in
     let q = c .before .before .before .quota .ensures .0 in
-    view-parts (a .s) (a .four) (at-entry (c .before .before .before .before .before .before)) (a .bank) (a .thread) (a .row) (a .h .last / (a .s .w / 2) % 2) (c .before .before .before .before .before .before .cell .result) _
-    refl (c .before .before .before .before .before .before .cell .ensures .0) refl q refl refl (c .before .before .before .before .before .before .before .before .bank-estimate .ensures) (c .before .before .before .before .before .before .before .bank-estimate2 .ensures) (c .delay .ensures) refl
+    view-parts (a .s) (a .four) (at-entry (c .before .before .before .before .before .before)) (a .bank) (a .thread) (a .row) (a .e % 2) (c .before .before .before .before .before .before .cell .result) _
+    (ap (λ x. x % 2) (c .before .before .before .before .before .before .before .before .before .before .before .before .before .before .pre .2)) (c .before .before .before .before .before .before .cell .ensures .0) refl q refl refl (c .before .before .before .before .before .before .before .before .bank-estimate .ensures) (c .before .before .before .before .before .before .before .bank-estimate2 .ensures) (c .delay .ensures) (ap (λ x. (x + 1) * (a .s .w / 2)) (c .before .before .before .before .before .before .before .before .before .before .before .before .before .before .pre .2))
 
 pub look-spec : {M : Type 1} → statement M
 look-spec =
     tie.close
     (tie.spec
-    div-e
     bank-estimate-requires
     cast-active
     sub-bank-estimate

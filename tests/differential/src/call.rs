@@ -1,0 +1,50 @@
+//! A call of the throttle with its arguments, and what it answers.
+
+/// Which of the four calls.
+#[derive(Clone, Copy, Debug, PartialEq, Eq)]
+pub enum Kind {
+    Setup,
+    Request,
+    Done,
+    Index,
+}
+
+impl Kind {
+    pub const ALL: [Kind; 4] = [Kind::Setup, Kind::Request, Kind::Done, Kind::Index];
+
+    /// The greatest refusal number of this call.
+    pub fn last_refusal(self) -> usize {
+        match self {
+            Kind::Setup => 6,
+            Kind::Request | Kind::Index => 9,
+            Kind::Done => 10,
+        }
+    }
+}
+
+/// A call; set-up takes none of the arguments, only a request takes the row.
+#[derive(Clone, Copy, Debug)]
+pub struct Call {
+    pub kind: Kind,
+    pub tick: u64,
+    pub bank: u64,
+    pub thread: u64,
+    pub row: u16,
+}
+
+impl Call {
+    pub const SETUP: Call = Call {
+        kind: Kind::Setup,
+        tick: 0,
+        bank: 0,
+        thread: 0,
+        row: 0,
+    };
+}
+
+/// The number a call returns, and out after it.
+#[derive(Clone, Copy, Debug, PartialEq, Eq)]
+pub struct Answer {
+    pub number: u32,
+    pub out: [u64; 3],
+}

@@ -1,0 +1,112 @@
+//! The campaign: numbered runs, each with a setting, seeds, memory and calls
+//! of its own, all settled by the campaign's seed and the run's number.
+
+use crate::call::Call;
+use crate::contents::{fill_any, fill_near, lent};
+use crate::numbers::Numbers;
+use crate::pair::{Difference, Pair};
+use crate::settings::{at_bounds, large, medium, mixed, odd_seeds, seeds, small};
+use crate::tally::Tally;
+use crate::walk::Walk;
+use second::{Fault, State};
+
+pub struct Campaign {
+    seed: u64,
+    bounds: Vec<[u64; 9]>,
+}
+
+impl Campaign {
+    pub fn new(seed: u64) -> Self {
+        Campaign {
+            seed,
+            bounds: at_bounds(),
+        }
+    }
+
+    /// Settings at the bounds, each of which has a run of its own.
+    pub fn bounds(&self) -> usize {
+        self.bounds.len()
+    }
+
+    /// Makes a run, the second implementation with a fault or without, and
+    /// stops at the first difference.
+    pub fn run(&self, run: u64, fault: Fault, tally: &mut Tally) -> Result<(), Box<Difference>> {
+        let mut numbers = Numbers::new(self.seed ^ run.wrapping_mul(0xD134_2543_DE82_EF95));
+        let (setting, seeds) = self.setting(run, &mut numbers);
+        let calls = if run % 16 < 10 { 60 } else { 25 };
+        let setups = if run % 8 == 7 { 8 } else { 100 };
+        let mut walk = Walk::new(Numbers::new(numbers.word()), calls, setups);
+        let mut state = lent(&mut numbers, &setting);
+        let fresh = fill(run, &mut numbers, &setting, &walk.rows, &mut state);
+        let mut pair = Pair::new(setting, seeds, state, fault);
+        tally.scenarios += 1;
+        if fresh {
+            step(&mut pair, &Call::SETUP, &mut walk, tally)?;
+        }
+        while walk.calls > 0 {
+            walk.calls -= 1;
+            let call = walk.next_call(&pair);
+            step(&mut pair, &call, &mut walk, tally)?;
+        }
+        Ok(())
+    }
+
+    /// The setting and seeds of a run: mostly small; every eighth run stands
+    /// at a bound, first each of the list, then any.
+    fn setting(&self, run: u64, numbers: &mut Numbers) -> ([u64; 9], Vec<u16>) {
+        let setting = match run % 16 {
+            0..=6 | 8..=12 => small(numbers),
+            13 => medium(numbers),
+            14 => large(numbers),
+            _ => match self.bounds.get((run / 8) as usize) {
+                Some(&setting) => setting,
+                None => mixed(numbers),
+            },
+        };
+        let seeds = if run % 16 == 12 {
+            odd_seeds(numbers)
+        } else {
+            seeds(numbers)
+        };
+        (setting, seeds)
+    }
+}
+
+/// Fills the memory of a run; is it to be set up first?
+fn fill(
+    run: u64,
+    numbers: &mut Numbers,
+    setting: &[u64; 9],
+    rows: &[u16],
+    state: &mut State,
+) -> bool {
+    match run % 16 {
+        0..=4 => {
+            fill_any(numbers, setting, state);
+            true
+        }
+        10 => {
+            fill_any(numbers, setting, state);
+            false
+        }
+        _ => {
+            fill_near(numbers, setting, rows, state);
+            numbers.one_in(4)
+        }
+    }
+}
+
+/// Makes one call to both, compares and counts it.
+fn step(
+    pair: &mut Pair,
+    call: &Call,
+    walk: &mut Walk,
+    tally: &mut Tally,
+) -> Result<(), Box<Difference>> {
+    let head = |pair: &Pair| [pair.memory().head.cells()[0], pair.memory().head.cells()[1]];
+    let before = head(pair);
+    let answer = pair.call(call)?;
+    walk.note(call, &answer);
+    tally.note(pair.setting(), call, &answer, before, head(pair));
+    Ok(())
+}

@@ -1,0 +1,191 @@
+//! Lent memory: its lengths, and contents of every kind, from cleared over
+//! odd but sound to arbitrary.
+
+use crate::numbers::Numbers;
+use crate::settings::{history, BANKS, L, N, TD, TFAW, THREADS, TRC, W};
+use second::state::{BANK, LAST, PLACE, RANK};
+use second::State;
+
+/// Cleared memory for a setting, accepted or not: as long as it uses, or, in
+/// some cases, with buffers longer or one cell short.
+pub fn lent(numbers: &mut Numbers, setting: &[u64; 9]) -> State {
+    let banks = setting[BANKS].min(16) as usize;
+    let threads = setting[THREADS].min(32) as usize;
+    let (ticks, rows) = (history(setting), history(setting));
+    let mut lengths = [banks * 2_048, ticks, rows, banks * threads * 3];
+    match numbers.within(0, 15) {
+        0 => {
+            let short = numbers.pick(&lengths_to_cut());
+            for (length, _) in lengths.iter_mut().zip(short).filter(|(_, cut)| *cut) {
+                *length = length.saturating_sub(1);
+            }
+        }
+        1 => lengths[numbers.within(0, 3) as usize] = 0,
+        2..=8 => {
+            for length in &mut lengths {
+                *length += numbers.within(0, 5) as usize;
+            }
+        }
+        _ => {}
+    }
+    State {
+        head: [0; 22],
+        counters: vec![0; lengths[0]],
+        ticks: vec![0; lengths[1]],
+        rows: vec![0; lengths[2]],
+        threads: vec![0; lengths[3]],
+    }
+}
+
+/// Which of the four buffers are one cell short: each alone, or all.
+fn lengths_to_cut() -> [[bool; 4]; 5] {
+    [
+        [true, false, false, false],
+        [false, true, false, false],
+        [false, false, true, false],
+        [false, false, false, true],
+        [true; 4],
+    ]
+}
+
+/// Fills memory with any bits; the history place is below H in half of the
+/// cases, so that the rest of refusal 7 is reached too.
+pub fn fill_any(numbers: &mut Numbers, setting: &[u64; 9], state: &mut State) {
+    state.head.fill_with(|| numbers.word());
+    state.counters.fill_with(|| numbers.word() as u16);
+    state.ticks.fill_with(|| numbers.word());
+    state.rows.fill_with(|| numbers.word() as u32);
+    state.threads.fill_with(|| numbers.word() as u32);
+    if numbers.one_in(2) {
+        state.head[PLACE] %= history(setting) as u64;
+    }
+    if numbers.one_in(2) {
+        state.ticks.fill(0);
+    }
+}
+
+/// Fills memory with odd contents that refusal 7 lets pass, but for one case
+/// in eight. The rows are those the calls will ask for.
+pub fn fill_near(numbers: &mut Numbers, setting: &[u64; 9], rows: &[u16], state: &mut State) {
+    let last = last_tick(numbers, setting);
+    state.head[LAST] = last;
+    for cell in BANK..RANK + 4 {
+        state.head[cell] = kept(numbers, setting, last);
+    }
+    if numbers.one_in(3) {
+        let foreign = setting[BANKS].min(16) as usize;
+        state.head[BANK + foreign..RANK].fill_with(|| numbers.word());
+    }
+    fill_history(numbers, setting, rows, state);
+    fill_counters(numbers, setting, state);
+    fill_threads(numbers, setting, state);
+    if numbers.one_in(8) {
+        spoil(numbers, setting, state);
+    }
+}
+
+/// A last tick: early, near an epoch turn, around 2^62 or around 2^64 - 1.
+fn last_tick(numbers: &mut Numbers, setting: &[u64; 9]) -> u64 {
+    let w = setting[W].clamp(2, 1 << 30);
+    match numbers.within(0, 15) {
+        0 => (1 << 62) - 1 - numbers.within(0, 3),
+        1 => (1 << 62) - 1 - numbers.within(0, 2 * w),
+        2 => (1 << 62) + numbers.within(0, 2),
+        3 => u64::MAX - numbers.within(0, 2),
+        4 => numbers.within(0, 1 << 61),
+        5 => 0,
+        6..=9 => (w / 2 * numbers.within(1, 9)) - numbers.within(0, 2).min(w / 2),
+        _ => numbers.within(0, 4 * w),
+    }
+}
+
+/// A stored tick that is none or not after the last tick, often near the end
+/// of one of the gaps.
+fn kept(numbers: &mut Numbers, setting: &[u64; 9], last: u64) -> u64 {
+    let near = numbers.within(0, 2);
+    let gap = match numbers.within(0, 11) {
+        0 => return 0,
+        1..=3 => numbers.within(0, 3),
+        4 | 5 => setting[TRC].saturating_sub(near),
+        6 | 7 => setting[TFAW].saturating_sub(near),
+        8 | 9 => setting[TD].saturating_sub(near),
+        10 => numbers.within(0, setting[TD].min(1 << 30) * 2),
+        _ => numbers.within(0, 40),
+    };
+    last.saturating_add(1).saturating_sub(gap)
+}
+
+/// A history whose stored ticks fall when read back, with rows that the calls
+/// will ask for, in banks of the setting and one outside.
+fn fill_history(numbers: &mut Numbers, setting: &[u64; 9], rows: &[u16], state: &mut State) {
+    let h = history(setting);
+    let last = state.head[LAST];
+    let between = below(numbers, h);
+    let place = numbers.pick(&[0, h - 1, between]);
+    state.head[PLACE] = place as u64;
+    let mut stored: Vec<u64> = (0..h).map(|_| kept(numbers, setting, last)).collect();
+    stored.sort_unstable();
+    stored.rotate_right(place);
+    let used = h.min(state.ticks.len());
+    state.ticks[..used].copy_from_slice(&stored[..used]);
+    state.ticks[used..].fill_with(|| numbers.word());
+    for word in &mut state.rows {
+        let bank = numbers.within(0, setting[BANKS].min(16)) as u32;
+        *word = bank * 65_536 + u32::from(numbers.pick(rows));
+    }
+}
+
+fn below(numbers: &mut Numbers, end: usize) -> usize {
+    numbers.within(0, end as u64 - 1) as usize
+}
+
+/// Filter counters below, at and above N.
+fn fill_counters(numbers: &mut Numbers, setting: &[u64; 9], state: &mut State) {
+    let n = setting[N].min(65_535);
+    let style = numbers.within(0, 4);
+    state.counters.fill_with(|| match style {
+        0 => n as u16,
+        1 => numbers.within(0, n + 2).min(65_535) as u16,
+        2 => numbers.within(n.saturating_sub(1), n + 1).min(65_535) as u16,
+        3 => numbers.pick(&[0, 1, n as u16, 65_535]),
+        _ => numbers.word() as u16,
+    });
+}
+
+/// Index counters below, at and above D, in flight around Q.
+fn fill_threads(numbers: &mut Numbers, setting: &[u64; 9], state: &mut State) {
+    let d = setting[L].min(1 << 24).saturating_sub(setting[N]) as u32;
+    let q = setting[6].min(256) as u32;
+    let calm = numbers.one_in(2);
+    for cells in state.threads.chunks_mut(3) {
+        for (k, cell) in cells.iter_mut().enumerate() {
+            let top = if k == 2 { q } else { d };
+            *cell = match numbers.within(0, 7) {
+                _ if calm && k == 2 => numbers.within(0, 1) as u32,
+                0 => top,
+                1 => top + 1,
+                2 => top.saturating_sub(1),
+                3 => u32::MAX,
+                4 => numbers.within(0, u64::from(top)) as u32,
+                _ => numbers.within(0, 2) as u32,
+            };
+        }
+    }
+}
+
+/// Makes one change that refusal 7 is about, or that lies next to it.
+fn spoil(numbers: &mut Numbers, setting: &[u64; 9], state: &mut State) {
+    let h = history(setting);
+    let after = state.head[LAST].saturating_add(numbers.within(1, 2));
+    let place = below(numbers, h.min(state.ticks.len()).max(1));
+    let banks = setting[BANKS].clamp(1, 16);
+    match numbers.within(0, 6) {
+        0 => state.head[PLACE] = numbers.pick(&[h as u64, h as u64 + 1, 1 << 32, u64::MAX]),
+        1 => state.head[BANK + numbers.within(0, banks - 1) as usize] = after,
+        2 => state.head[RANK + numbers.within(0, 3) as usize] = after,
+        3 => state.ticks.iter_mut().skip(place).take(1).for_each(|tick| *tick = after),
+        4 => state.ticks.iter_mut().skip(place).take(1).for_each(|tick| *tick = 0),
+        5 => state.head[PLACE] = (state.head[PLACE] + 1) % h as u64,
+        _ => state.ticks.iter_mut().skip(place).take(1).for_each(|tick| *tick ^= 1),
+    }
+}

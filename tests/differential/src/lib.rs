@@ -1,0 +1,24 @@
+//! Tests of the compiled library from outside. It is compared, call by call,
+//! with the second implementation, which was written from the specification
+//! alone; and it is attacked by programs that try to activate a row more often
+//! than the setting allows.
+//!
+//! - `library`, `memory`: the four calls of the archive, on guarded memory
+//! - `side`: library and second implementation behind one face
+//! - `pair`: one call made to both, and the comparison
+//! - `settings`, `contents`, `walk`: settings, memory and calls
+//! - `campaign`, `tally`: numbered runs, and what they reached
+//! - `adversary`: rows hammered as often as the answers allow
+
+pub mod adversary;
+pub mod call;
+pub mod campaign;
+mod contents;
+mod library;
+mod memory;
+pub mod numbers;
+pub mod pair;
+pub mod settings;
+pub mod side;
+pub mod tally;
+mod walk;

@@ -1,0 +1,208 @@
+//! Settings for the tests: small ones, medium ones, those of real chips, and
+//! those that stand at the bounds.
+
+use crate::numbers::Numbers;
+use second::setting::{accept, history_length, house_seeds, row_bound};
+use second::Config;
+
+/// A field of the setting by its place.
+pub const W: usize = 0;
+pub const TRC: usize = 1;
+pub const TFAW: usize = 2;
+pub const N: usize = 3;
+pub const TD: usize = 4;
+pub const L: usize = 5;
+pub const BANKS: usize = 7;
+pub const THREADS: usize = 8;
+
+/// Least and greatest value of each field.
+const RANGES: [(u64, u64); 9] = [
+    (2, 1 << 30),
+    (1, 65_535),
+    (1, 65_535),
+    (1, 32_768),
+    (1, 1 << 29),
+    (1, 1 << 24),
+    (1, 255),
+    (1, 16),
+    (1, 32),
+];
+
+/// Accepted settings in which each field that can stands at its bounds.
+pub const BASES: [[u64; 9]; 8] = [
+    [40, 1, 4, 2, 6, 10, 4, 1, 1],
+    [4, 1, 1, 1, 2, 3, 1, 1, 1],
+    [256_000_000, 185, 140, 4_096, 31_065, 16_384, 255, 16, 8],
+    [1 << 30, 16_383, 65_535, 32_768, 67_107_840, 65_537, 255, 16, 32],
+    [1 << 30, 1, 1, 1, 65, 1 << 24, 7, 2, 3],
+    [1 << 20, 65_535, 64, 1, 65_536, 17, 9, 3, 5],
+    [1 << 30, 3, 65_535, 32_768, 65_535, 1 << 24, 255, 1, 32],
+    [6_000, 1, 3, 2, 3_000, 7, 3, 16, 1],
+];
+
+/// Is this setting accepted, with any 64 seeds?
+pub fn accepted(setting: &[u64; 9]) -> bool {
+    accept(&Config::new(*setting, &[0; 64])).is_ok()
+}
+
+/// The row bound B, where it is defined.
+pub fn bound(setting: &[u64; 9]) -> Option<u64> {
+    row_bound(&Config::new(*setting, &[])).map(|bound| bound as u64)
+}
+
+/// The history length H, for a setting that is not accepted 1 to 4,096.
+pub fn history(setting: &[u64; 9]) -> usize {
+    let length = history_length(&Config::new(*setting, &[]));
+    length.map_or(4_096, |length| length.clamp(1, 4_096)) as usize
+}
+
+/// A small setting, nearly always accepted.
+pub fn small(numbers: &mut Numbers) -> [u64; 9] {
+    let trc = numbers.within(1, 4);
+    let n = numbers.within(1, 4);
+    let w = 2 * (n * trc + numbers.within(1, 40));
+    let td = numbers.within(trc, (w / 2).max(trc));
+    let tfaw = numbers.within(1, 12);
+    let q = if numbers.one_in(4) { 255 } else { numbers.within(1, 6) };
+    let (banks, threads) = (numbers.within(1, 3), numbers.within(1, 3));
+    limited(numbers, [w, trc, tfaw, n, td, 1, q, banks, threads])
+}
+
+/// A setting of medium size: wait ticks some thousands away, more banks and
+/// threads.
+pub fn medium(numbers: &mut Numbers) -> [u64; 9] {
+    let trc = numbers.within(1, 150);
+    let n = numbers.within(1, 60);
+    let w = 2 * (n * trc + numbers.within(trc, 12_000));
+    let td = numbers.within(trc, (w / 2).min(1_500));
+    let tfaw = numbers.within(td.div_ceil(1_024), 300);
+    let q = numbers.within(1, 255);
+    let (banks, threads) = (numbers.within(1, 16), numbers.within(1, 32));
+    limited(numbers, [w, trc, tfaw, n, td, 1, q, banks, threads])
+}
+
+/// A large accepted setting: that of a chip, or any.
+pub fn large(numbers: &mut Numbers) -> [u64; 9] {
+    if numbers.one_in(2) {
+        return numbers.pick(&BASES[2..7]);
+    }
+    let trc = numbers.within(1, 4_000);
+    let n = numbers.within(1, 32_768);
+    let w = 2 * (n * trc + numbers.within(trc, 1 << 28));
+    let td = numbers.within(trc.max(64), (w / 2).max(trc.max(64)));
+    let tfaw = numbers.within(td.div_ceil(1_024).min(65_535), 65_535);
+    let (banks, threads) = (numbers.within(1, 16), numbers.within(1, 32));
+    let setting = limited(numbers, [w, trc, tfaw, n, td, 1, 255, banks, threads]);
+    if accepted(&setting) {
+        setting
+    } else {
+        BASES[2]
+    }
+}
+
+/// The setting with L at its row bound, somewhat above or just below.
+fn limited(numbers: &mut Numbers, mut setting: [u64; 9]) -> [u64; 9] {
+    let spare = numbers.within(0, 16);
+    let bound = bound(&setting).unwrap_or(1);
+    setting[L] = match spare {
+        0 => bound - 1,
+        1..=5 => bound,
+        _ => bound + spare,
+    };
+    setting
+}
+
+/// Every base setting with one field at, next to and far from its bounds, and
+/// with the numbers of refusals 2 to 5 at and next to theirs.
+pub fn at_bounds() -> Vec<[u64; 9]> {
+    let mut settings = Vec::new();
+    for base in BASES {
+        settings.push(base);
+        for field in 0..9 {
+            for value in edges(field) {
+                settings.push(with(&base, field, value));
+            }
+        }
+        settings.extend(relations(&base));
+    }
+    settings
+}
+
+/// A base setting with one to three fields changed to values near bounds.
+pub fn mixed(numbers: &mut Numbers) -> [u64; 9] {
+    let mut setting = numbers.pick(&BASES);
+    if numbers.one_in(3) {
+        setting = numbers.pick(&relations(&setting));
+    }
+    for _ in 0..numbers.within(1, 3) {
+        let field = numbers.within(0, 8) as usize;
+        setting[field] = numbers.pick(&edges(field));
+    }
+    setting
+}
+
+/// Values of a field around its bounds, and some that only 64 bits hold.
+fn edges(field: usize) -> Vec<u64> {
+    let (low, high) = RANGES[field];
+    let mut values = vec![low - 1, low, low + 1, high - 1, high, high + 1, 0, high + 2];
+    values.extend([1 << 16, 1 << 32, (1 << 32) + low, (1 << 32) + high, 1 << 63, u64::MAX]);
+    values
+}
+
+/// The setting with one field changed.
+fn with(setting: &[u64; 9], field: usize, value: u64) -> [u64; 9] {
+    let mut changed = *setting;
+    changed[field] = value;
+    changed
+}
+
+/// The setting with W, tD, tFAW or L at and next to the bounds of refusals 2
+/// to 5.
+fn relations(base: &[u64; 9]) -> Vec<[u64; 9]> {
+    let free = 2 * base[N] * base[TRC];
+    let mut settings = Vec::new();
+    for near in [0, 1, 2, 3, 4] {
+        settings.push(with(base, W, (free + near).saturating_sub(2)));
+        for td in [base[TRC], base[W] / 2, 1_024 * base[TFAW]] {
+            settings.push(with(base, TD, (td + near).saturating_sub(2)));
+            let wide = with(base, TD, (td + near).saturating_sub(2));
+            settings.push(with(&wide, L, 1 << 24));
+        }
+        let short = base[TD].div_ceil(1_024);
+        settings.push(with(base, TFAW, (short + near).saturating_sub(2)));
+        if let Some(bound) = bound(base) {
+            settings.push(with(base, L, (bound + near).saturating_sub(2)));
+        }
+    }
+    settings
+}
+
+/// 64 seeds of 0 to 1,023, in many cases such that rows share counters.
+pub fn seeds(numbers: &mut Numbers) -> Vec<u16> {
+    let mut seeds = house_seeds();
+    match numbers.within(0, 6) {
+        0 | 1 => {}
+        2 => seeds.fill(0),
+        3 => seeds.iter_mut().for_each(|seed| *seed %= 4),
+        4 => seeds.copy_within(0..16, 32),
+        5 => seeds.fill(1_023),
+        _ => {
+            for seed in &mut seeds {
+                *seed = numbers.within(0, 1_023) as u16;
+            }
+        }
+    }
+    seeds
+}
+
+/// Seeds of another count, or with a word around 1,023.
+pub fn odd_seeds(numbers: &mut Numbers) -> Vec<u16> {
+    let mut seeds = seeds(numbers);
+    let place = numbers.within(0, 63) as usize;
+    match numbers.within(0, 2) {
+        0 => seeds.resize(numbers.pick(&[0, 1, 63, 64, 65, 128, 65_600]), 1_023),
+        1 => seeds[place] = 1_023,
+        _ => seeds[place] = numbers.pick(&[1_024, 1_025, 32_768, 65_535]),
+    }
+    seeds
+}

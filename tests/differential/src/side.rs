@@ -1,0 +1,66 @@
+//! The two implementations behind one face: the compiled library on guarded
+//! memory, and the second implementation on memory of its own.
+
+use crate::call::{Answer, Call, Kind};
+use crate::library;
+use crate::memory::Memory;
+use second::{done, index, request, setup, Config, Fault, State};
+
+/// What out holds before a call.
+const OUT: [u64; 3] = [0x1111_2222, 0x3333_4444, 0x5555_6666];
+
+/// Something that answers the four calls.
+pub trait Side {
+    fn call(&mut self, call: &Call) -> Answer;
+}
+
+/// The compiled library.
+pub struct Library {
+    pub memory: Memory,
+}
+
+impl Library {
+    pub fn new(setting: &[u64; 9], seeds: &[u16], state: &State) -> Self {
+        Library {
+            memory: Memory::new(setting, seeds, state),
+        }
+    }
+}
+
+impl Side for Library {
+    fn call(&mut self, call: &Call) -> Answer {
+        self.memory.out.cells_mut().copy_from_slice(&OUT);
+        let number = library::call(&mut self.memory, call);
+        let mut out = OUT;
+        out.copy_from_slice(self.memory.out.cells());
+        Answer { number, out }
+    }
+}
+
+/// The second implementation, with a fault or without.
+pub struct Second {
+    pub setting: [u64; 9],
+    pub seeds: Vec<u16>,
+    pub fault: Fault,
+    pub state: State,
+}
+
+impl Side for Second {
+    fn call(&mut self, call: &Call) -> Answer {
+        let config = Config::new(self.setting, &self.seeds).with(self.fault);
+        let state = &mut self.state;
+        let (tick, bank, thread) = (call.tick, call.bank, call.thread);
+        let [a, b, c] = OUT;
+        let (mut two, mut three) = ([a, b], OUT);
+        let number = match call.kind {
+            Kind::Setup => setup(&config, state),
+            Kind::Request => request(&config, state, tick, bank, thread, call.row, &mut two),
+            Kind::Done => done(&config, state, tick, bank, thread),
+            Kind::Index => index(&config, state, tick, bank, thread, &mut three),
+        };
+        if call.kind == Kind::Request {
+            three = [two[0], two[1], c];
+        }
+        Answer { number, out: three }
+    }
+}
