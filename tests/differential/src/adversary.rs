@@ -75,7 +75,11 @@ pub fn rave(side: &mut impl Side, setting: &[u64; 9], numbers: &mut Numbers, cal
             tick += numbers.within(1, setting[W] / 2);
         }
     }
-    opened.values().map(|ticks| most_in(ticks, setting[W])).max().unwrap_or(0)
+    opened
+        .values()
+        .map(|ticks| most_in(ticks, setting[W]))
+        .max()
+        .unwrap_or(0)
 }
 
 /// Requests a row for one thread after the other until one isn't held by its

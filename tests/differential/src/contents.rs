@@ -183,9 +183,24 @@ fn spoil(numbers: &mut Numbers, setting: &[u64; 9], state: &mut State) {
         0 => state.head[PLACE] = numbers.pick(&[h as u64, h as u64 + 1, 1 << 32, u64::MAX]),
         1 => state.head[BANK + numbers.within(0, banks - 1) as usize] = after,
         2 => state.head[RANK + numbers.within(0, 3) as usize] = after,
-        3 => state.ticks.iter_mut().skip(place).take(1).for_each(|tick| *tick = after),
-        4 => state.ticks.iter_mut().skip(place).take(1).for_each(|tick| *tick = 0),
+        3 => state
+            .ticks
+            .iter_mut()
+            .skip(place)
+            .take(1)
+            .for_each(|tick| *tick = after),
+        4 => state
+            .ticks
+            .iter_mut()
+            .skip(place)
+            .take(1)
+            .for_each(|tick| *tick = 0),
         5 => state.head[PLACE] = (state.head[PLACE] + 1) % h as u64,
-        _ => state.ticks.iter_mut().skip(place).take(1).for_each(|tick| *tick ^= 1),
+        _ => state
+            .ticks
+            .iter_mut()
+            .skip(place)
+            .take(1)
+            .for_each(|tick| *tick ^= 1),
     }
 }

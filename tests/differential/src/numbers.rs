@@ -22,7 +22,7 @@ impl Numbers {
     }
 
     pub fn one_in(&mut self, many: u64) -> bool {
-        self.word() % many == 0
+        self.word().is_multiple_of(many)
     }
 
     pub fn pick<T: Copy>(&mut self, from: &[T]) -> T {

@@ -85,7 +85,10 @@ fn cells<T: Cell + Debug>(name: &str, left: &[T], right: &[T]) -> Option<String>
     if left == right {
         return None;
     }
-    let place = left.iter().zip(right).position(|(left, right)| left != right);
+    let place = left
+        .iter()
+        .zip(right)
+        .position(|(left, right)| left != right);
     Some(match place {
         Some(place) => format!(
             "{name}[{place}] is {:?}, expected {:?}",

@@ -33,7 +33,17 @@ pub const BASES: [[u64; 9]; 8] = [
     [40, 1, 4, 2, 6, 10, 4, 1, 1],
     [4, 1, 1, 1, 2, 3, 1, 1, 1],
     [256_000_000, 185, 140, 4_096, 31_065, 16_384, 255, 16, 8],
-    [1 << 30, 16_383, 65_535, 32_768, 67_107_840, 65_537, 255, 16, 32],
+    [
+        1 << 30,
+        16_383,
+        65_535,
+        32_768,
+        67_107_840,
+        65_537,
+        255,
+        16,
+        32,
+    ],
     [1 << 30, 1, 1, 1, 65, 1 << 24, 7, 2, 3],
     [1 << 20, 65_535, 64, 1, 65_536, 17, 9, 3, 5],
     [1 << 30, 3, 65_535, 32_768, 65_535, 1 << 24, 255, 1, 32],
@@ -63,7 +73,11 @@ pub fn small(numbers: &mut Numbers) -> [u64; 9] {
     let w = 2 * (n * trc + numbers.within(1, 40));
     let td = numbers.within(trc, (w / 2).max(trc));
     let tfaw = numbers.within(1, 12);
-    let q = if numbers.one_in(4) { 255 } else { numbers.within(1, 6) };
+    let q = if numbers.one_in(4) {
+        255
+    } else {
+        numbers.within(1, 6)
+    };
     let (banks, threads) = (numbers.within(1, 3), numbers.within(1, 3));
     limited(numbers, [w, trc, tfaw, n, td, 1, q, banks, threads])
 }
@@ -145,7 +159,14 @@ pub fn mixed(numbers: &mut Numbers) -> [u64; 9] {
 fn edges(field: usize) -> Vec<u64> {
     let (low, high) = RANGES[field];
     let mut values = vec![low - 1, low, low + 1, high - 1, high, high + 1, 0, high + 2];
-    values.extend([1 << 16, 1 << 32, (1 << 32) + low, (1 << 32) + high, 1 << 63, u64::MAX]);
+    values.extend([
+        1 << 16,
+        1 << 32,
+        (1 << 32) + low,
+        (1 << 32) + high,
+        1 << 63,
+        u64::MAX,
+    ]);
     values
 }
 

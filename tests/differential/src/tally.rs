@@ -103,7 +103,10 @@ impl fmt::Display for Tally {
             }
         }
         write!(f, "\n  answers ")?;
-        for (name, count) in ["opened", "bank", "rank", "row", "quota"].iter().zip(self.answers) {
+        for (name, count) in ["opened", "bank", "rank", "row", "quota"]
+            .iter()
+            .zip(self.answers)
+        {
             write!(f, " {name} {count}")?;
         }
         for (name, count) in EVENTS.iter().zip(self.events) {

@@ -86,7 +86,13 @@ impl Walk {
         if !self.numbers.one_in(40) {
             return inside;
         }
-        let outside = [many, many.saturating_add(1), 1 << 32, (1 << 32) + inside, u64::MAX];
+        let outside = [
+            many,
+            many.saturating_add(1),
+            1 << 32,
+            (1 << 32) + inside,
+            u64::MAX,
+        ];
         self.numbers.pick(&outside)
     }
 
@@ -131,7 +137,14 @@ impl Walk {
     fn extreme(&mut self) -> u64 {
         let near = self.numbers.within(0, 3);
         let limit = 1 << 62;
-        self.numbers.pick(&[limit - near, limit + near, limit, 1 << 63, u64::MAX - near, u64::MAX])
+        self.numbers.pick(&[
+            limit - near,
+            limit + near,
+            limit,
+            1 << 63,
+            u64::MAX - near,
+            u64::MAX,
+        ])
     }
 
     /// Aims a done at a thread that has something in flight, if a few tries
@@ -142,7 +155,10 @@ impl Walk {
             let bank = self.numbers.within(0, setting[BANKS].clamp(1, 16) - 1);
             let thread = self.numbers.within(0, setting[THREADS].clamp(1, 32) - 1);
             let place = (bank * setting[THREADS].min(32) + thread) * 3 + 2;
-            if threads.get(place as usize).is_some_and(|&flying| flying > 0) {
+            if threads
+                .get(place as usize)
+                .is_some_and(|&flying| flying > 0)
+            {
                 (call.bank, call.thread) = (bank, thread);
                 return;
             }

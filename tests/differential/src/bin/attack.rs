@@ -4,6 +4,7 @@
 //! on faulty implementations must get above B. Argument, optional: the seed.
 
 use differential::adversary::{hammer, most_in, rave, Plan, ROW};
+use differential::call::Call;
 use differential::numbers::Numbers;
 use differential::settings::{bound, seeds, L, N, TD, TRC, W};
 use differential::side::{Library, Second, Side};
@@ -24,12 +25,13 @@ const LISTED: [[u64; 9]; 3] = [
 /// Most activations of a row in W ticks for the listed settings.
 const LISTED_MOST: [usize; 3] = [8, 10, 4];
 /// Faults with which some adversary gets above B.
-const UNSAFE: [Fault; 5] = [
+const UNSAFE: [Fault; 6] = [
     Fault::TestsClearedFilter,
     Fault::RowDelayIsTrc,
-    Fault::BlacklistedAboveN,
-    Fault::TwoEpochsClearOne,
     Fault::FilterZeroTwice,
+    Fault::StampsLastTick,
+    Fault::StoresWithoutPlusOne,
+    Fault::BlacklistedAboveN,
 ];
 
 /// The most activations found on one setting.
@@ -40,7 +42,9 @@ struct Found {
 }
 
 fn main() -> ExitCode {
-    let seed = std::env::args().nth(1).map_or(1, |seed| seed.parse().expect("a seed"));
+    let seed = std::env::args()
+        .nth(1)
+        .map_or(1, |seed| seed.parse().expect("a seed"));
     println!("attack: seed {seed}");
     let mut numbers = Numbers::new(seed);
     let mut settings = LISTED.to_vec();
@@ -76,7 +80,11 @@ fn small(numbers: &mut Numbers) -> [u64; 9] {
 fn colliding(numbers: &mut Numbers) -> Vec<u16> {
     loop {
         let seeds = seeds(numbers);
-        let shared = |row: u16| hash(&seeds, row).iter().any(|at| hash(&seeds, ROW).contains(at));
+        let shared = |row: u16| {
+            hash(&seeds, row)
+                .iter()
+                .any(|at| hash(&seeds, ROW).contains(at))
+        };
         if (0..4).any(shared) {
             return seeds;
         }
@@ -97,7 +105,12 @@ fn most(side: &mut impl Side, setting: &[u64; 9], numbers: &mut Numbers) -> usiz
         for first in 1..=setting[N] as usize + 1 {
             for pause in (0..=w).step_by(step) {
                 let end = start + 3 * w;
-                let plan = Plan { start, first, pause, end };
+                let plan = Plan {
+                    start,
+                    first,
+                    pause,
+                    end,
+                };
                 most = most.max(most_in(&hammer(side, setting, &plan), w));
             }
         }
@@ -116,12 +129,24 @@ fn limits_hold(numbers: &mut Numbers, settings: &[[u64; 9]]) -> bool {
         let mut library = Library::new(setting, &seeds, &cleared(setting, &seeds));
         let most = most(&mut library, setting, numbers);
         let bound = bound(setting).expect("accepted") as usize;
-        found.push(Found { setting: *setting, bound, most });
+        found.push(Found {
+            setting: *setting,
+            bound,
+            most,
+        });
     }
     report(&found);
-    let listed = found.iter().zip(LISTED_MOST).all(|(found, most)| found.most == most);
+    let listed = found
+        .iter()
+        .zip(LISTED_MOST)
+        .all(|(found, most)| found.most == most);
     let above = found.iter().find(|found| found.most > found.bound);
-    if let Some(Found { setting, bound, most }) = above {
+    if let Some(Found {
+        setting,
+        bound,
+        most,
+    }) = above
+    {
         println!("  ABOVE THE BOUND: {most} of {bound} on {setting:?}");
     }
     if !listed {
@@ -132,14 +157,31 @@ fn limits_hold(numbers: &mut Numbers, settings: &[[u64; 9]]) -> bool {
 
 /// Prints how near the attacks came to the bound.
 fn report(found: &[Found]) {
-    let attained = found.iter().filter(|found| found.most >= found.bound).count();
-    println!("  {} settings with L = B, B attained on {attained}", found.len());
-    let delayed = found.iter().filter(|found| found.setting[TD] > found.setting[TRC]);
+    let attained = found
+        .iter()
+        .filter(|found| found.most >= found.bound)
+        .count();
+    println!(
+        "  {} settings with L = B, B attained on {attained}",
+        found.len()
+    );
+    let delayed = found
+        .iter()
+        .filter(|found| found.setting[TD] > found.setting[TRC]);
     let closest = delayed.max_by_key(|found| (found.most * 1_000 / found.bound, found.bound));
-    if let Some(Found { setting, bound, most }) = closest {
+    if let Some(Found {
+        setting,
+        bound,
+        most,
+    }) = closest
+    {
         println!("  closest with tD above tRC: {most} of {bound} on {setting:?}");
     }
-    let Found { setting, bound, most } = &found[0];
+    let Found {
+        setting,
+        bound,
+        most,
+    } = &found[0];
     println!("  setting S: {most} of {bound} on {setting:?}");
 }
 
@@ -150,7 +192,12 @@ fn faults_seen(numbers: &mut Numbers, settings: &[[u64; 9]]) -> bool {
         let above = settings.iter().any(|&setting| {
             let seeds = colliding(numbers);
             let state = cleared(&setting, &seeds);
-            let mut faulty = Second { setting, seeds, fault, state };
+            let mut faulty = Second {
+                setting,
+                seeds,
+                fault,
+                state,
+            };
             most(&mut faulty, &setting, numbers) as u64 > bound(&setting).unwrap_or(0)
         });
         if !above {
@@ -170,11 +217,13 @@ fn published() -> bool {
     let half = [256_000_000, 185, 140, 4_096, 31_065, 16_384, 255, 1, 2];
     let mut refused = twin;
     refused[L] = 16_384;
-    let number = accept(&Config::new(refused, &house_seeds())).err();
+    let seeds = house_seeds();
+    let mut library = Library::new(&refused, &seeds, &cleared(&twin, &seeds));
+    let number = library.call(&Call::SETUP).number;
     let (twin, half) = (bursts(&twin), bursts(&half));
-    println!("  published setting: refused with {number:?} at L 16,384;");
+    println!("  published setting: refused with {number} at L 16,384;");
     println!("  at L 24,528 a row is activated {twin} times in W; with half its N {half} times");
-    number == Some(5) && twin == 20_431 && half <= 16_384
+    number == 5 && twin == 20_431 && half <= 16_384
 }
 
 /// The most activations in W ticks if N of them, tRC apart, end with an epoch
@@ -184,6 +233,11 @@ fn bursts(setting: &[u64; 9]) -> usize {
     let mut library = Library::new(setting, &seeds, &cleared(setting, &seeds));
     let turn = 3 * (setting[W] / 2);
     let start = turn - 1 - (setting[N] - 1) * setting[TRC];
-    let plan = Plan { start, first: 0, pause: 0, end: start + setting[W] };
+    let plan = Plan {
+        start,
+        first: 0,
+        pause: 0,
+        end: start + setting[W],
+    };
     most_in(&hammer(&mut library, setting, &plan), setting[W])
 }

@@ -8,17 +8,22 @@ use second::Fault;
 use std::process::ExitCode;
 
 /// Runs of a campaign.
-const RUNS: u64 = 40_000;
+const RUNS: u64 = 160_000;
 /// Calls that a campaign has to make.
 const CALLS: u64 = 1_000_000;
 
 fn main() -> ExitCode {
     let mut arguments = std::env::args().skip(1).map(|word| word.parse::<u64>());
     let seed = arguments.next().map_or(1, |seed| seed.expect("a seed"));
-    let runs = arguments.next().map_or(RUNS, |runs| runs.expect("a number of runs"));
+    let runs = arguments
+        .next()
+        .map_or(RUNS, |runs| runs.expect("a number of runs"));
     let campaign = Campaign::new(seed);
     let mut tally = Tally::default();
-    println!("compare: seed {seed}, {} settings at bounds", campaign.bounds());
+    println!(
+        "compare: seed {seed}, {} settings at bounds",
+        campaign.bounds()
+    );
     if !BASES.iter().all(accepted) {
         println!("compare: a base setting is not accepted");
         return ExitCode::FAILURE;

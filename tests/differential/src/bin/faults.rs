@@ -13,7 +13,9 @@ const RUNS: u64 = 10_000;
 const FAULTS: usize = 20;
 
 fn main() -> ExitCode {
-    let seed = std::env::args().nth(1).map_or(1, |seed| seed.parse().expect("a seed"));
+    let seed = std::env::args()
+        .nth(1)
+        .map_or(1, |seed| seed.parse().expect("a seed"));
     let campaign = Campaign::new(seed);
     println!("faults: seed {seed}");
     let mut caught = 0;

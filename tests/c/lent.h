@@ -1,0 +1,111 @@
+/*
+ * Memory lent to the throttle: every buffer, the setting, the seeds and out
+ * have a heap block of their own of exactly the stated length, so that a memory
+ * checker sees an access outside.
+ */
+#ifndef LENT_H
+#define LENT_H
+
+#include "throttle.h"
+
+#include <stdlib.h>
+#include <string.h>
+
+struct lent {
+    uint64_t *words;
+    uint16_t *seeds;
+    size_t seeds_len;
+    uint64_t *head;
+    uint16_t *counters;
+    size_t counters_len;
+    uint64_t *ticks;
+    size_t ticks_len;
+    uint32_t *rows;
+    size_t rows_len;
+    uint32_t *threads;
+    size_t threads_len;
+    uint64_t *two;   /* out of a request */
+    uint64_t *three; /* out of an index reading */
+};
+
+/* A heap block that is not initialised. */
+static inline void *block(size_t cells, size_t size)
+{
+    void *memory = malloc(cells * size);
+    if (!memory)
+        abort();
+    return memory;
+}
+
+/* Function f, bit i: (37(i+1)^2 + 211f + 89if) mod 1,024. */
+static inline void house_seeds(uint16_t seeds[64])
+{
+    for (unsigned f = 0; f < 4; f++)
+        for (unsigned i = 0; i < 16; i++)
+            seeds[16 * f + i] = (uint16_t)((37 * (i + 1) * (i + 1) + 211 * f + 89 * i * f) % 1024);
+}
+
+/* Memory as long as the setting uses, not initialised, with the house seeds. */
+static inline struct lent lend(const struct throttle_setting *s)
+{
+    struct lent m;
+    m.words = block(9, 8);
+    throttle_words(s, m.words);
+    m.seeds_len = 64;
+    m.seeds = block(64, 2);
+    house_seeds(m.seeds);
+    m.head = block(THROTTLE_HEAD_CELLS, 8);
+    m.counters_len = throttle_counter_cells(s);
+    m.counters = block(m.counters_len, 2);
+    m.ticks_len = m.rows_len = throttle_history_cells(s);
+    m.ticks = block(m.ticks_len, 8);
+    m.rows = block(m.rows_len, 4);
+    m.threads_len = throttle_thread_cells(s);
+    m.threads = block(m.threads_len, 4);
+    m.two = block(THROTTLE_REQUEST_OUT, 8);
+    m.three = block(THROTTLE_INDEX_OUT, 8);
+    return m;
+}
+
+static inline void give_back(struct lent *m)
+{
+    free(m->words);
+    free(m->seeds);
+    free(m->head);
+    free(m->counters);
+    free(m->ticks);
+    free(m->rows);
+    free(m->threads);
+    free(m->two);
+    free(m->three);
+}
+
+static inline uint32_t setup(struct lent *m)
+{
+    return throttle_setup(m->words, m->seeds, m->seeds_len, m->head, m->counters, m->counters_len,
+                          m->ticks, m->ticks_len, m->rows, m->rows_len, m->threads, m->threads_len);
+}
+
+static inline uint32_t request(struct lent *m, uint64_t tick, uint64_t bank, uint64_t thread,
+                               uint16_t row)
+{
+    return throttle_request(m->words, m->seeds, m->seeds_len, m->head, m->counters,
+                            m->counters_len, m->ticks, m->ticks_len, m->rows, m->rows_len,
+                            m->threads, m->threads_len, tick, bank, thread, row, m->two);
+}
+
+static inline uint32_t done(struct lent *m, uint64_t tick, uint64_t bank, uint64_t thread)
+{
+    return throttle_done(m->words, m->seeds, m->seeds_len, m->head, m->counters, m->counters_len,
+                         m->ticks, m->ticks_len, m->rows, m->rows_len, m->threads, m->threads_len,
+                         tick, bank, thread);
+}
+
+static inline uint32_t reading(struct lent *m, uint64_t tick, uint64_t bank, uint64_t thread)
+{
+    return throttle_index(m->words, m->seeds, m->seeds_len, m->head, m->counters, m->counters_len,
+                          m->ticks, m->ticks_len, m->rows, m->rows_len, m->threads, m->threads_len,
+                          tick, bank, thread, m->three);
+}
+
+#endif

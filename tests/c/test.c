@@ -1,0 +1,312 @@
+/*
+ * Calls everything that include/throttle.h declares: the types, the sizes, the
+ * sample runs of the specification, every refusal of every call, and the order
+ * and width of the arguments by values that differ in each of them.
+ */
+#include "lent.h"
+
+#include <stdio.h>
+
+#define BUFFERS                                                                                    \
+    const uint64_t *, const uint16_t *, size_t, uint64_t *, uint16_t *, size_t, uint64_t *,        \
+        size_t, uint32_t *, size_t, uint32_t *, size_t
+
+typedef uint32_t setup_type(BUFFERS);
+typedef uint32_t request_type(BUFFERS, uint64_t, uint64_t, uint64_t, uint16_t, uint64_t *);
+typedef uint32_t done_type(BUFFERS, uint64_t, uint64_t, uint64_t);
+typedef uint32_t index_type(BUFFERS, uint64_t, uint64_t, uint64_t, uint64_t *);
+
+_Static_assert(_Generic(&throttle_setup, setup_type *: 1, default: 0), "type of set-up");
+_Static_assert(_Generic(&throttle_request, request_type *: 1, default: 0), "type of request");
+_Static_assert(_Generic(&throttle_done, done_type *: 1, default: 0), "type of done");
+_Static_assert(_Generic(&throttle_index, index_type *: 1, default: 0), "type of index");
+_Static_assert(sizeof(struct throttle_setting) == 72, "nine words");
+
+static unsigned checks, failures;
+
+#define CHECK(condition)                                                                           \
+    do {                                                                                           \
+        checks++;                                                                                  \
+        if (!(condition)) {                                                                        \
+            failures++;                                                                            \
+            printf("  line %d: %s\n", __LINE__, #condition);                                       \
+        }                                                                                          \
+    } while (0)
+
+static const struct throttle_setting S = {40, 1, 4, 2, 6, 10, 4, 1, 1};
+
+/* B = 9 + floor((4,001 - 40)/90) = 53, H = 4 x ceil(90/7) = 52 */
+static const struct throttle_setting NINE = {
+    .w = 4002, .trc = 5, .tfaw = 7, .n = 4, .td = 90, .l = 60, .q = 11, .banks = 3, .threads = 6};
+
+static const uint64_t FIRST = (UINT64_C(1) << 40) + 17;
+static const uint64_t LIMIT = UINT64_C(1) << 62;
+static const uint64_t WIDE = UINT64_C(1) << 32;
+
+/* A request that is answered so. */
+static int answers(struct lent *m, uint64_t tick, uint64_t answer, uint64_t wait)
+{
+    return request(m, tick, 0, 0, 5) == 0 && m->two[0] == answer && m->two[1] == wait;
+}
+
+static int opened_and_done(struct lent *m, uint64_t tick)
+{
+    return answers(m, tick, THROTTLE_OPENED, 0) && done(m, tick, 0, 0) == 0;
+}
+
+/* The sizes and the order of the words. */
+static void sizes(void)
+{
+    uint64_t words[9];
+    CHECK(throttle_counter_cells(&NINE) == 3 * 2048);
+    CHECK(throttle_history_cells(&NINE) == 52);
+    CHECK(throttle_thread_cells(&NINE) == 3 * 6 * 3);
+    CHECK(throttle_history_cells(&S) == 8);
+    CHECK(throttle_words(&NINE, words) == words);
+    CHECK(memcmp(words, &NINE, sizeof words) == 0);
+    struct throttle_setting none = {0};
+    CHECK(throttle_counter_cells(&none) == 0);
+    CHECK(throttle_history_cells(&none) == 0);
+    CHECK(throttle_thread_cells(&none) == 0);
+}
+
+/* The sample runs of the specification on setting S. */
+static void samples(void)
+{
+    struct lent m = lend(&S);
+    CHECK(setup(&m) == 0);
+    CHECK(done(&m, 0, 0, 0) == THROTTLE_NONE_IN_FLIGHT);
+    CHECK(answers(&m, 0, THROTTLE_OPENED, 0));
+    CHECK(answers(&m, 1, THROTTLE_OPENED, 0));
+    CHECK(answers(&m, 2, THROTTLE_WAIT_ROW, 7));
+    CHECK(answers(&m, 7, THROTTLE_OPENED, 0));
+    CHECK(answers(&m, 8, THROTTLE_QUOTA, 0));
+    CHECK(reading(&m, 8, 0, 0) == 0);
+    CHECK(m.three[0] == 1 && m.three[1] == 8 && m.three[2] == 3);
+    CHECK(request(&m, 7, 0, 0, 5) == THROTTLE_BAD_TICK);
+
+    CHECK(setup(&m) == 0);
+    CHECK(opened_and_done(&m, 18) && opened_and_done(&m, 19) && opened_and_done(&m, 37));
+    CHECK(answers(&m, 38, THROTTLE_WAIT_ROW, 40));
+
+    CHECK(setup(&m) == 0);
+    CHECK(opened_and_done(&m, 18) && opened_and_done(&m, 19));
+    CHECK(answers(&m, 21, THROTTLE_WAIT_ROW, 25));
+
+    CHECK(setup(&m) == 0);
+    CHECK(answers(&m, 6, THROTTLE_OPENED, 0));
+    CHECK(request(&m, 5, 0, 0, 5) == THROTTLE_BAD_TICK);
+    CHECK(answers(&m, 6, THROTTLE_WAIT_BANK, 7));
+    for (uint16_t row = 1; row < 4; row++)
+        CHECK(request(&m, 6 + row, 0, 0, row) == 0 && m.two[0] == THROTTLE_OPENED);
+    CHECK(done(&m, 9, 0, 0) == 0);
+    CHECK(request(&m, 9, 0, 0, 9) == 0 && m.two[0] == THROTTLE_WAIT_BANK && m.two[1] == 10);
+    give_back(&m);
+}
+
+/* Four activations in three banks, then the rank's rule. */
+static void rank_rule(void)
+{
+    struct lent m = lend(&NINE);
+    CHECK(setup(&m) == 0);
+    for (uint64_t bank = 0; bank < 3; bank++)
+        CHECK(request(&m, 100, bank, 1, 8) == 0 && m.two[0] == THROTTLE_OPENED);
+    CHECK(request(&m, 105, 0, 1, 8) == 0 && m.two[0] == THROTTLE_OPENED);
+    CHECK(request(&m, 106, 1, 1, 8) == 0 && m.two[0] == THROTTLE_WAIT_RANK && m.two[1] == 107);
+    give_back(&m);
+}
+
+/* Activates row 0xBEEF of bank 2 for thread 4 and looks at every cell. */
+static void order_of_arguments(void)
+{
+    struct lent m = lend(&NINE);
+    const size_t cell = (2 * 6 + 4) * 3;
+    CHECK(setup(&m) == 0);
+    CHECK(request(&m, FIRST, 2, 4, 0xBEEF) == 0 && m.two[0] == 0 && m.two[1] == 0);
+    for (size_t i = 0; i < THROTTLE_HEAD_CELLS; i++) {
+        uint64_t expected = i == 0 ? FIRST : i == 1 ? 1 : i == 4 || i == 18 ? FIRST + 1 : 0;
+        CHECK(m.head[i] == expected);
+    }
+    for (size_t i = 0; i < m.ticks_len; i++) {
+        CHECK(m.ticks[i] == (i == 0 ? FIRST + 1 : 0));
+        CHECK(m.rows[i] == (i == 0 ? 2u * 65536 + 0xBEEF : 0));
+    }
+    for (size_t i = 0; i < m.threads_len; i++)
+        CHECK(m.threads[i] == (i == cell + 2));
+
+    m.threads[cell] = m.threads[cell + 1] = 28;
+    CHECK(reading(&m, FIRST + 1, 2, 4) == 0);
+    CHECK(m.three[0] == 28 && m.three[1] == 56 && m.three[2] == 5);
+    CHECK(request(&m, FIRST + 2, 2, 4, 0xBEEF) == 0 && m.two[0] == THROTTLE_WAIT_BANK);
+    CHECK(m.two[1] == FIRST + 5);
+    CHECK(done(&m, FIRST + 3, 4, 2) == THROTTLE_OUTSIDE_SETTING);
+    CHECK(done(&m, FIRST + 3, 2, 4) == 0 && m.threads[cell + 2] == 0);
+    CHECK(m.head[0] == FIRST + 3);
+    give_back(&m);
+}
+
+/* The four counters of a row, in bank 2 and both filters, and no other. */
+static void order_of_seeds(void)
+{
+    struct lent m = lend(&NINE);
+    uint16_t place[4] = {0};
+    for (unsigned f = 0; f < 4; f++)
+        for (unsigned i = 0; i < 16; i++)
+            if (0xBEEF >> i & 1)
+                place[f] ^= m.seeds[16 * f + i];
+    CHECK(setup(&m) == 0);
+    CHECK(request(&m, FIRST, 2, 4, 0xBEEF) == 0);
+    for (size_t i = 0; i < m.counters_len; i++) {
+        size_t in_filter = i % 1024;
+        int hit = in_filter == place[0] || in_filter == place[1] || in_filter == place[2] ||
+                  in_filter == place[3];
+        CHECK(m.counters[i] == (i >= 2 * 2048 && hit));
+    }
+    give_back(&m);
+}
+
+/* A copy of the state and of out. */
+static struct lent copy(const struct lent *m, const struct throttle_setting *s)
+{
+    struct lent c = lend(s);
+    memcpy(c.head, m->head, THROTTLE_HEAD_CELLS * 8);
+    memcpy(c.counters, m->counters, c.counters_len * 2);
+    memcpy(c.ticks, m->ticks, c.ticks_len * 8);
+    memcpy(c.rows, m->rows, c.rows_len * 4);
+    memcpy(c.threads, m->threads, c.threads_len * 4);
+    return c;
+}
+
+static int same(const struct lent *m, const struct lent *c)
+{
+    return memcmp(m->head, c->head, THROTTLE_HEAD_CELLS * 8) == 0 &&
+           memcmp(m->counters, c->counters, c->counters_len * 2) == 0 &&
+           memcmp(m->ticks, c->ticks, c->ticks_len * 8) == 0 &&
+           memcmp(m->rows, c->rows, c->rows_len * 4) == 0 &&
+           memcmp(m->threads, c->threads, c->threads_len * 4) == 0;
+}
+
+/* Request, done and index are refused with this number and change nothing. */
+static int refused(struct lent *m, uint32_t number, uint64_t tick, uint64_t bank, uint64_t thread)
+{
+    struct lent before = copy(m, &NINE);
+    m->two[0] = m->two[1] = m->three[0] = m->three[1] = m->three[2] = 77;
+    int all = request(m, tick, bank, thread, 9) == number &&
+              done(m, tick, bank, thread) == number && reading(m, tick, bank, thread) == number;
+    int kept = same(m, &before) && m->two[0] == 77 && m->two[1] == 77 && m->three[0] == 77 &&
+               m->three[1] == 77 && m->three[2] == 77;
+    give_back(&before);
+    return all && kept;
+}
+
+/* Refusals 1 to 5, by set-up and by the other calls. */
+static void refused_settings(struct lent *m)
+{
+    static const struct {
+        unsigned field;
+        uint64_t value;
+        uint32_t number;
+    } cases[] = {{0, 4003, 1}, {1, 501, 2}, {4, 4, 3}, {4, 2002, 3}, {2, 0, 1}, {5, 52, 5}};
+    for (size_t i = 0; i < sizeof cases / sizeof *cases; i++) {
+        uint64_t kept = m->words[cases[i].field];
+        m->words[cases[i].field] = cases[i].value;
+        CHECK(setup(m) == cases[i].number);
+        CHECK(refused(m, cases[i].number, FIRST, 2, 4));
+        m->words[cases[i].field] = kept;
+    }
+    m->words[0] = 1 << 20, m->words[4] = 1024 * 7 + 1;
+    CHECK(setup(m) == THROTTLE_LONG_HISTORY && refused(m, THROTTLE_LONG_HISTORY, FIRST, 2, 4));
+    throttle_words(&NINE, m->words);
+    for (unsigned field = 0; field < 9; field++) {
+        m->words[field] += WIDE;
+        CHECK(setup(m) == THROTTLE_OUT_OF_RANGE);
+        CHECK(refused(m, THROTTLE_OUT_OF_RANGE, FIRST, 2, 4));
+        m->words[field] -= WIDE;
+    }
+}
+
+/* Seeds of another count or out of range. */
+static void refused_seeds(struct lent *m)
+{
+    m->seeds_len = 63;
+    CHECK(setup(m) == THROTTLE_OUT_OF_RANGE && refused(m, THROTTLE_OUT_OF_RANGE, FIRST, 2, 4));
+    m->seeds_len = 64;
+    m->seeds[63] = 1024;
+    CHECK(setup(m) == THROTTLE_OUT_OF_RANGE && refused(m, THROTTLE_OUT_OF_RANGE, FIRST, 2, 4));
+    house_seeds(m->seeds);
+}
+
+/* Each of the four lengths one short. */
+static void refused_lengths(struct lent *m)
+{
+    size_t *lengths[] = {&m->counters_len, &m->ticks_len, &m->rows_len, &m->threads_len};
+    for (unsigned i = 0; i < 4; i++) {
+        *lengths[i] -= 1;
+        CHECK(setup(m) == THROTTLE_SHORT_BUFFER && refused(m, THROTTLE_SHORT_BUFFER, FIRST, 2, 4));
+        *lengths[i] += 1;
+    }
+}
+
+/* Every refusal of every call, each argument cut to no fewer than 64 bits. */
+static void refusals(void)
+{
+    struct lent m = lend(&NINE);
+    CHECK(setup(&m) == 0);
+    CHECK(request(&m, FIRST, 2, 4, 0xBEEF) == 0);
+    refused_settings(&m);
+    refused_seeds(&m);
+    refused_lengths(&m);
+    m.head[1] = 52;
+    CHECK(refused(&m, THROTTLE_BAD_MEMORY, FIRST, 9, 9));
+    m.head[1] = 1;
+    CHECK(refused(&m, THROTTLE_OUTSIDE_SETTING, 0, 3, 4));
+    CHECK(refused(&m, THROTTLE_OUTSIDE_SETTING, 0, 2, 6));
+    CHECK(refused(&m, THROTTLE_OUTSIDE_SETTING, FIRST, WIDE + 2, 4));
+    CHECK(refused(&m, THROTTLE_OUTSIDE_SETTING, FIRST, 2, WIDE + 4));
+    CHECK(refused(&m, THROTTLE_BAD_TICK, FIRST - 1, 2, 4));
+    CHECK(refused(&m, THROTTLE_BAD_TICK, LIMIT, 2, 4));
+    CHECK(refused(&m, THROTTLE_BAD_TICK, UINT64_MAX, 2, 4));
+    CHECK(done(&m, FIRST, 1, 4) == THROTTLE_NONE_IN_FLIGHT);
+    CHECK(m.head[0] == FIRST);
+    CHECK(request(&m, LIMIT - 1, 2, 4, 9) == 0 && m.two[0] == THROTTLE_OPENED);
+    CHECK(request(&m, LIMIT - 1, 2, 4, 9) == 0 && m.two[1] == LIMIT + 4);
+    give_back(&m);
+}
+
+/*
+ * Buffers three cells longer: the rest is not initialised, so that a memory
+ * checker sees a decision that depends on it.
+ */
+static void longer_buffers(void)
+{
+    struct throttle_setting wide = NINE;
+    wide.td += 7;
+    struct lent m = lend(&wide);
+    m.counters = realloc(m.counters, (m.counters_len += 3) * 2);
+    m.threads = realloc(m.threads, (m.threads_len += 3) * 4);
+    if (!m.counters || !m.threads)
+        abort();
+    throttle_words(&NINE, m.words);
+    CHECK(setup(&m) == 0);
+    for (uint64_t tick = FIRST; tick < FIRST + 3 * 4002; tick += 3) {
+        uint64_t bank = tick % 3, thread = tick % 5;
+        CHECK(request(&m, tick, bank, thread, tick % 2 * 65535) == 0);
+        if (m.two[0] == THROTTLE_OPENED)
+            CHECK(done(&m, tick, bank, thread) == 0);
+    }
+    CHECK(reading(&m, FIRST + 4 * 4002, 2, 4) == 0 && m.three[0] == 0 && m.three[2] == 11);
+    give_back(&m);
+}
+
+int main(void)
+{
+    sizes();
+    samples();
+    rank_rule();
+    order_of_arguments();
+    order_of_seeds();
+    refusals();
+    longer_buffers();
+    printf("c: %u checks, %u failed\n", checks, failures);
+    return failures != 0;
+}
