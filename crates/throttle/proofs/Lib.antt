@@ -2,3 +2,4 @@ pub mod Refusals
 pub mod Parts
 pub mod Request
 pub mod Settled
+pub mod Tells

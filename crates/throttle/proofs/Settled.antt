@@ -30,7 +30,7 @@ pub unless-taken : (r : Refusal) (st : State) (o : Outcome) → refusalNumber r 
 unfolding unlessRefused
 unless-taken r st o e = rw (eq-eqb (refusalNumber r) 0 e)
 
-unless-refused : (r : Refusal) (st : State) (o : Outcome) → refusalNumber r ≢ 0 → unlessRefused r st o ≡ outcome (refused r) st
+pub unless-refused : (r : Refusal) (st : State) (o : Outcome) → refusalNumber r ≢ 0 → unlessRefused r st o ≡ outcome (refused r) st
 unfolding unlessRefused
 unless-refused r st o h = rw (ne-eqb (refusalNumber r) 0 h)
 

@@ -17,6 +17,7 @@ ghost use Rattle.throttle.specs.Left.{left, found, leaves};
 mod calls;
 mod look;
 mod refusal;
+pub mod sound;
 mod state;
 mod words;
 

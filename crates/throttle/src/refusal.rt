@@ -2,11 +2,13 @@
 use rules::Head;
 use rules::Setting;
 ghost use mathlib.Core.Path.{_≡_};
-ghost use Prim.Native.Nat.{_≤_};
+ghost use Prim.Native.Nat.{_≤_, _<_};
+ghost use lib.Dec.{eqb};
 ghost use lib.ListN.{length, getD};
 ghost use Rattle.rules.specs.Cells.{every};
-ghost use Rattle.rules.specs.Answers.{none, shortBuffer, refusalNumber, refuse, orElse};
+ghost use Rattle.rules.specs.Answers.{none, shortBuffer, noneInFlight, refusalNumber, refuse, orElse};
 ghost use Rattle.rules.specs.Setting.{historyLength, settingRefusal};
+ghost use Rattle.rules.specs.State.{threadsUsed, threadCell};
 ghost use Rattle.rules.specs.History.{notAfter};
 ghost use Rattle.rules.specs.Quota.{limits01, document01};
 ghost use Rattle.rules.specs.Calls.{callRefusal, doneRefusal};
@@ -117,7 +119,7 @@ pub fn setup_refusal(
 }
 
 // Refusals 8 and 9.
-fn place_refusal(s: Setting, last: u64, tick: u64, bank: u64, thread: u64) -> u32
+pub fn place_refusal(s: Setting, last: u64, tick: u64, bank: u64, thread: u64) -> u32
     ensures { λ r. ⌜ r ≡ refusalNumber (placeRefusal s last tick bank thread) ⌝ }
 {
     if s.banks <= bank {
@@ -164,6 +166,15 @@ pub fn call_refusal(
     place_refusal(s, h.last, tick, bank, thread)
 }
 
+// Refusal 10.
+pub fn flying_refusal(s: Setting, threads: &[u32], bank: u64, thread: u64) -> u32
+    requires { ⌜ (bank < s .banks) × (thread < s .threads) × (s .banks ≤ 16) × (s .threads ≤ 32) × (threadsUsed s ≤ length (now threads)) ⌝ }
+    ensures { λ r. ⌜ r ≡ refusalNumber (refuse (eqb (getD (now (threads .entry)) (threadCell s bank thread 2) 0) 0) noneInFlight none) ⌝ }
+{
+    let flight = quota::cell(s, bank, thread) + 2;
+    if threads[flight] == 0 { 10 } else { 0 }
+}
+
 // Refusals 1 to 10 of a done.
 pub fn done_refusal(
     s: Setting,
@@ -194,6 +205,5 @@ pub fn done_refusal(
     if code != 0 {
         return code;
     }
-    let flight = quota::cell(s, bank, thread) + 2;
-    if threads[flight] == 0 { 10 } else { 0 }
+    flying_refusal(s, threads, bank, thread)
 }

@@ -33,7 +33,11 @@ impl Campaign {
     pub fn run(&self, run: u64, fault: Fault, tally: &mut Tally) -> Result<(), Box<Difference>> {
         let mut numbers = Numbers::new(self.seed ^ run.wrapping_mul(0xD134_2543_DE82_EF95));
         let (setting, seeds) = self.setting(run, &mut numbers);
-        let calls = if run % 16 < 10 { 60 } else { 25 };
+        let calls = match run % 16 {
+            0..=9 => 60,
+            10 | 11 => 6,
+            _ => 25,
+        };
         let setups = if run % 8 == 7 { 8 } else { 100 };
         let mut walk = Walk::new(Numbers::new(numbers.word()), calls, setups);
         let mut state = lent(&mut numbers, &setting);
@@ -85,7 +89,7 @@ fn fill(
             fill_any(numbers, setting, state);
             true
         }
-        10 => {
+        10 | 11 => {
             fill_any(numbers, setting, state);
             false
         }

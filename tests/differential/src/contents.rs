@@ -48,8 +48,9 @@ fn lengths_to_cut() -> [[bool; 4]; 5] {
     ]
 }
 
-/// Fills memory with any bits; the history place is below H in half of the
-/// cases, so that the rest of refusal 7 is reached too.
+/// Fills memory with any bits. In half of the cases each, the history place is
+/// below H, no kept tick is after the last, and all but a few history ticks
+/// are none, so that every part of refusal 7 decides at times.
 pub fn fill_any(numbers: &mut Numbers, setting: &[u64; 9], state: &mut State) {
     state.head.fill_with(|| numbers.word());
     state.counters.fill_with(|| numbers.word() as u16);
@@ -60,7 +61,25 @@ pub fn fill_any(numbers: &mut Numbers, setting: &[u64; 9], state: &mut State) {
         state.head[PLACE] %= history(setting) as u64;
     }
     if numbers.one_in(2) {
+        state.head[LAST] = u64::MAX - numbers.within(0, 1);
+    }
+    if numbers.one_in(2) && !state.ticks.is_empty() {
         state.ticks.fill(0);
+        chain(numbers, &mut state.ticks);
+    }
+}
+
+/// Writes a few neighbouring cells, each a step above the one before, where a
+/// step may lie in the highest bits only or pass 2^64.
+fn chain(numbers: &mut Numbers, ticks: &mut [u64]) {
+    let mut place = below(numbers, ticks.len());
+    let mut tick: u64 = 0;
+    for _ in 0..numbers.within(1, 5) {
+        let word = numbers.word();
+        let step = numbers.pick(&[word, word >> 1, word >> 2, word >> 9, word << 56]);
+        tick = tick.wrapping_add(step);
+        ticks[place] = tick;
+        place = (place + 1) % ticks.len();
     }
 }
 
@@ -84,16 +103,17 @@ pub fn fill_near(numbers: &mut Numbers, setting: &[u64; 9], rows: &[u16], state:
     }
 }
 
-/// A last tick: early, near an epoch turn, around 2^62 or around 2^64 - 1.
+/// A last tick: early, near an epoch turn, around 2^62, around 2^64 - 1 or any.
 fn last_tick(numbers: &mut Numbers, setting: &[u64; 9]) -> u64 {
     let w = setting[W].clamp(2, 1 << 30);
-    match numbers.within(0, 15) {
+    match numbers.within(0, 16) {
         0 => (1 << 62) - 1 - numbers.within(0, 3),
         1 => (1 << 62) - 1 - numbers.within(0, 2 * w),
         2 => (1 << 62) + numbers.within(0, 2),
         3 => u64::MAX - numbers.within(0, 2),
         4 => numbers.within(0, 1 << 61),
         5 => 0,
+        16 => numbers.word(),
         6..=9 => (w / 2 * numbers.within(1, 9)) - numbers.within(0, 2).min(w / 2),
         _ => numbers.within(0, 4 * w),
     }
@@ -110,6 +130,7 @@ fn kept(numbers: &mut Numbers, setting: &[u64; 9], last: u64) -> u64 {
         6 | 7 => setting[TFAW].saturating_sub(near),
         8 | 9 => setting[TD].saturating_sub(near),
         10 => numbers.within(0, setting[TD].min(1 << 30) * 2),
+        _ if numbers.one_in(2) => numbers.word() % last.max(1),
         _ => numbers.within(0, 40),
     };
     last.saturating_add(1).saturating_sub(gap)
@@ -177,30 +198,18 @@ fn fill_threads(numbers: &mut Numbers, setting: &[u64; 9], state: &mut State) {
 fn spoil(numbers: &mut Numbers, setting: &[u64; 9], state: &mut State) {
     let h = history(setting);
     let after = state.head[LAST].saturating_add(numbers.within(1, 2));
-    let place = below(numbers, h.min(state.ticks.len()).max(1));
     let banks = setting[BANKS].clamp(1, 16);
-    match numbers.within(0, 6) {
+    match numbers.within(0, 5) {
         0 => state.head[PLACE] = numbers.pick(&[h as u64, h as u64 + 1, 1 << 32, u64::MAX]),
-        1 => state.head[BANK + numbers.within(0, banks - 1) as usize] = after,
-        2 => state.head[RANK + numbers.within(0, 3) as usize] = after,
-        3 => state
-            .ticks
-            .iter_mut()
-            .skip(place)
-            .take(1)
-            .for_each(|tick| *tick = after),
-        4 => state
-            .ticks
-            .iter_mut()
-            .skip(place)
-            .take(1)
-            .for_each(|tick| *tick = 0),
-        5 => state.head[PLACE] = (state.head[PLACE] + 1) % h as u64,
-        _ => state
-            .ticks
-            .iter_mut()
-            .skip(place)
-            .take(1)
-            .for_each(|tick| *tick ^= 1),
+        1 => state.head[PLACE] = (state.head[PLACE] + 1) % h as u64,
+        2 => state.head[BANK + numbers.within(0, banks - 1) as usize] = after,
+        3 => state.head[RANK + numbers.within(0, 3) as usize] = after,
+        _ => {
+            let place = below(numbers, h);
+            if let Some(&tick) = state.ticks.get(place) {
+                let flipped = tick ^ 1 << numbers.within(0, 63);
+                state.ticks[place] = numbers.pick(&[after, 0, tick ^ 1, flipped]);
+            }
+        }
     }
 }

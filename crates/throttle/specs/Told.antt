@@ -1,0 +1,22 @@
+-- What the calls for Rattle callers tell of the rules' outcome.
+use Prim.Native.Nat.{ℕ}
+use mathlib.Core.Path.{_≡_}
+use Rattle.rules.specs.declared.Setting.{Setting}
+use Rattle.rules.specs.declared.Answer.{Answer}
+use Rattle.rules.specs.State.{State}
+use Rattle.rules.specs.Calls.{Reply, answered, finished, returnCode, Outcome}
+use Rattle.rules.proofs.Sound.{Sound}
+
+-- a request: the code is the reply's, the answer is the reply's where the code is 0, the state is the outcome's and passes the tests again
+pub record Told (s : Setting) (code : ℕ) (answer : Answer) (st : State) (o : Outcome) : Type 0 where
+  pub code-is : code ≡ returnCode (o .reply)
+  pub answer-is : code ≡ 0 → o .reply ≡ answered answer
+  pub state-is : st ≡ o .state
+  pub sound : Sound s st
+
+-- a done: the same, with no answer
+pub record Over (s : Setting) (code : ℕ) (st : State) (o : Outcome) : Type 0 where
+  pub code-is : code ≡ returnCode (o .reply)
+  pub finished-is : code ≡ 0 → o .reply ≡ finished
+  pub state-is : st ≡ o .state
+  pub sound : Sound s st
