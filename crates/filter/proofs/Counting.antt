@@ -1,6 +1,6 @@
 -- What an activation adds: the four stores of a filter, and the two filters of a bank, against the rules' `counted`.
 -- All of it is about natural numbers, so it serves counters of every width.
-use mathlib.Core.Path.{_≡_, refl, sym, ap, _∙_}
+use mathlib.Core.Path.{_≡_, refl, sym, ap, _∙_, subst}
 use mathlib.Core.Logic.{_⊎_, inl, inr}
 use mathlib.Core.List.{List, [], _∷_, map}
 use mathlib.Core.Bool.{Bool, true, false, _||_, cond}
@@ -8,24 +8,13 @@ use Prim.Native.Nat.{ℕ, _+_, _*_, _≤_, _<_}
 use native.Mathlib.Omega.{arith}
 use lib.Dec.{T, eqb, eqb→eq}
 use lib.ListN.{length, getD, set}
-use borrow.Author.Tests.{lt-ltb, le-ltb, eq-eqb, ne-eqb}
+use borrow.Author.Tests.{eq-eqb, ne-eqb}
 use Rattle.rules.specs.Cells.{member, All}
 use Rattle.rules.specs.State.{counterCell}
 use Rattle.rules.specs.Filter.{Within, counterAt, raised, named, counted}
 use Rattle.rules.proofs.Tests.{or-e}
-use Rattle.rules.proofs.Cells.{map-same}
+use Rattle.rules.proofs.Cells.{map-same, map-map, store-map}
 use Rattle.filter.specs.Changes.{raisedAt}
-use Rattle.filter.proofs.Changes.{map-map, store-map}
-
--- ---- one counter
-
-pub raised-below : (n c : ℕ) → c < n → c + 1 ≡ raised n c
-unfolding raised
-raised-below n c h = rw (lt-ltb c n h)
-
-pub raised-full : (n c : ℕ) → n ≤ c → c ≡ raised n c
-unfolding raised
-raised-full n c h = rw (le-ltb c n h)
 
 -- ---- the counters of a list of cells
 
@@ -53,23 +42,16 @@ raised-four n cs a0 a1 a2 a3 v0 v1 v2 v3 h0 h1 h2 h3 e0 e1 e2 e3 =
 
 -- ---- a row's four cells
 
--- the cells of a row in filter f of a bank
-four-cells : (bank f : ℕ) (at : List ℕ) → length at ≡ 4
-    → counterCell bank f (getD at 0 0) ∷ counterCell bank f (getD at 1 0) ∷ counterCell bank f (getD at 2 0) ∷ counterCell bank f (getD at 3 0) ∷ [] ≡ map (counterCell bank f) at
-four-cells bank f [] e = absurd (omega arith)
-four-cells bank f (a ∷ []) e = absurd (omega arith)
-four-cells bank f (a ∷ b ∷ []) e = absurd (omega arith)
-four-cells bank f (a ∷ b ∷ c ∷ []) e = absurd (omega arith)
-four-cells bank f (a ∷ b ∷ c ∷ d ∷ []) e = refl
-four-cells bank f (a ∷ b ∷ c ∷ d ∷ x ∷ xs) e = absurd (omega arith)
+list-of-four : (l : List ℕ) → length l ≡ 4 → getD l 0 0 ∷ getD l 1 0 ∷ getD l 2 0 ∷ getD l 3 0 ∷ [] ≡ l
+list-of-four [] e = absurd (omega arith)
+list-of-four (a ∷ []) e = absurd (omega arith)
+list-of-four (a ∷ b ∷ []) e = absurd (omega arith)
+list-of-four (a ∷ b ∷ c ∷ []) e = absurd (omega arith)
+list-of-four (a ∷ b ∷ c ∷ d ∷ []) e = refl
+list-of-four (a ∷ b ∷ c ∷ d ∷ x ∷ xs) e = absurd (omega arith)
 
 within-all : (at : List ℕ) → length at ≡ 4 → Within at → All (λ p. p < 1024) at
-within-all [] e w = absurd (omega arith)
-within-all (a ∷ []) e w = absurd (omega arith)
-within-all (a ∷ b ∷ []) e w = absurd (omega arith)
-within-all (a ∷ b ∷ c ∷ []) e w = absurd (omega arith)
-within-all (a ∷ b ∷ c ∷ d ∷ []) e w = (w .first, (w .second, (w .third, (w .fourth, tt))))
-within-all (a ∷ b ∷ c ∷ d ∷ x ∷ xs) e w = absurd (omega arith)
+within-all at e w = subst (λ l. All (λ p. p < 1024) l) (list-of-four at e) (w .first, (w .second, (w .third, (w .fourth, tt))))
 
 -- the stores of the code, against the row's cells in filter f of a bank
 pub row-raised : (n bank f : ℕ) (at cs : List ℕ) (v0 v1 v2 v3 : ℕ) → length at ≡ 4 → Within at → f < 2 → bank * 2048 + 2048 ≤ length cs
@@ -81,7 +63,7 @@ row-raised n bank f at cs v0 v1 v2 v3 four w hf long e0 e1 e2 e3 =
     let k : ℕ → ℕ = λ j. counterCell bank f (getD at j 0) in
     raised-four n cs (k 0) (k 1) (k 2) (k 3) v0 v1 v2 v3
     (omega (arith, w .first)) (omega (arith, w .second)) (omega (arith, w .third)) (omega (arith, w .fourth)) e0 e1 e2 e3
-    ∙ ap (λ l. raisedAt n l cs) (four-cells bank f at four)
+    ∙ ap (λ l. raisedAt n (map (counterCell bank f) l) cs) (list-of-four at four)
 
 -- ---- the two filters of a bank
 

@@ -1,5 +1,3 @@
-pub mod Changes
 pub mod Parts
 pub mod Counting
 pub mod Clearing
-pub mod Widths

@@ -1,15 +1,13 @@
 -- What the result of the search tells, for any contents of the history.
-use mathlib.Core.Path.{_≡_, subst}
+use mathlib.Core.Path.{_≡_}
 use mathlib.Core.Logic.{_⊎_, inl, inr}
 use mathlib.Core.List.{List}
 use Prim.Native.Nat.{ℕ, _+_, _^_, _≤_, _<_}
 use native.Mathlib.Omega.{arith}
-use lib.Dec.{T, eqb, eqb→eq, eqb-refl, T-not}
+use lib.Dec.{T}
 use lib.ListN.{getD}
-use Rattle.rules.specs.History.{matches, rowFree, find}
-use Rattle.rules.proofs.Tests.{same-test}
-use Rattle.rules.proofs.Ring.{back-lt, Found, all-found, hit, free-none, none-free}
-use Rattle.history.proofs.Search.{match-stored}
+use Rattle.rules.specs.History.{matches, find}
+use Rattle.rules.proofs.Ring.{back-lt, match-parts, Found, all-found}
 
 module _ (h td p : ℕ) (ticks rows : List ℕ) (word t : ℕ) (ph : p < h) where
   -- what the search yields
@@ -27,37 +25,16 @@ module _ (h td p : ℕ) (ticks rows : List ℕ) (word t : ℕ) (ph : p < h) wher
       go (inl f) = inl (f .0)
       go (inr f) = inr (rw (f .1) (back-lt h p ph (f .0) (omega (arith, f .3))), rw (f .1) (f .4))
 
-  pub found-le : place ≤ h
-  found-le = go told
-    where
-      go : Told → place ≤ h
-      go (inl e) = omega arith
-      go (inr m) = omega (arith, m .0)
-
   -- a place that was found holds a stored tick from 1 to t + 1
   pub found-stored : place < h → (1 ≤ getD ticks place 0) × (getD ticks place 0 ≤ t + 1)
   found-stored l = go told
     where
       go : Told → (1 ≤ getD ticks place 0) × (getD ticks place 0 ≤ t + 1)
       go (inl e) = absurd (omega arith)
-      go (inr m) = let s = match-stored td word t (getD ticks place 0) (getD rows place 0) (m .1) in (s .0, s .1)
+      go (inr m) = let s = match-parts td word t (getD ticks place 0) (getD rows place 0) (m .1) in (omega arith, omega arith)
 
   -- the same of a result f, as `delay_end` asks for it
   pub found-fits : (f : ℕ) → f ≡ place → t < 2 ^ 62 → f < h → (1 ≤ getD ticks f 0) × (getD ticks f 0 ≤ 2 ^ 62 + 1)
   found-fits f e b l =
       let s = found-stored (rw e at l) in
       rw e (s .0, omega (arith, s .1))
-
-  -- the row is free exactly if the search yields h
-  pub free-found : rowFree h td ticks rows word t ≡ eqb place h
-  free-found = go (all-found h td p ticks rows word t ph)
-    where
-      go : Found h td p ticks rows word t ph 0 h place → rowFree h td ticks rows word t ≡ eqb place h
-      go (inl f) =
-          same-test (rowFree h td ticks rows word t) (eqb place h)
-          (λ y. subst (λ x. T (eqb place x)) (f .0) (eqb-refl place))
-          (λ y. none-free h td p ticks rows word t ph (λ i ih. f .1 i (omega arith) (omega arith)))
-      go (inr f) =
-          same-test (rowFree h td ticks rows word t) (eqb place h)
-          (λ y. absurd (T-not (hit h td p ticks rows word t ph (f .0)) (free-none h td p ticks rows word t ph y (f .0) (omega (arith, f .3))) (f .4)))
-          (λ y. absurd (omega (arith, eqb→eq place h y, f .1, back-lt h p ph (f .0) (omega (arith, f .3)))))

@@ -1,6 +1,5 @@
 -- The test of the stored ticks by the straight runs of the ring, and a run's test by or-ed differences.
 use mathlib.Core.Path.{_≡_, sym, _∙_}
-use mathlib.Core.Logic.{_⊎_, inl, inr}
 use mathlib.Core.List.{List}
 use mathlib.Core.Bool.{Bool, true, false, not, _&&_}
 use Prim.Native.Nat.{ℕ, suc, _+_, _-_, _%_, _^_, _≤_, _<_}
@@ -8,14 +7,15 @@ use native.Mathlib.Omega.{arith}
 use native.Mathlib.Numerals.{add-one}
 use native.Mathlib.Nat.{lt-of-le-of-lt, mod-eq-of-lt}
 use native.Mathlib.Decide.{decLt, ℕ-discrete}
-use lib.Dec.{T, leb, eqb, leb→le, le→leb, eqb→eq, not-T, T-not}
+use lib.Dec.{T, leb, leb→le, le→leb, not-T, T-not}
 use lib.Bits.{bitOr, or-add-and, and-le-r, or-comm}
 use lib.ListN.{getD}
 use borrow.Author.Tests.{not-true, not-false}
 use Rattle.rules.specs.Cells.{every}
 use Rattle.rules.specs.History.{back, notAfter, neverRises}
-use Rattle.rules.proofs.Tests.{and-i, and-l, and-r, or-r, or-e, is-false, holds, fails, every-at, every-all}
+use Rattle.rules.proofs.Tests.{and-i, and-l, and-r, is-false, holds, fails, every-at, every-all}
 use Rattle.rules.proofs.Ring.{back-new, back-old, back-lt, back-back, falls-one, falls}
+use Rattle.rules.proofs.Memory.{not-after, after-not}
 use Rattle.history.specs.Runs.{neverFalls}
 
 -- a test that does not hold, as an equation
@@ -29,18 +29,6 @@ rejected-by r a b e n f = rejected b (λ t. T-not a (fails a (sym e ∙ not-true
 -- a test that was computed as r and holds
 pub passed : (r a : Bool) → r ≡ a → not r ≡ false → T a
 passed r a e n = holds a (sym e ∙ not-false r n)
-
--- ---- a stored tick against the last tick
-
-pub after→le : (last stored : ℕ) → T (notAfter last stored) → stored ≤ last + 1
-after→le last stored h = go (or-e (eqb stored 0) (leb (stored - 1) last) h)
-  where
-    go : T (eqb stored 0) ⊎ T (leb (stored - 1) last) → stored ≤ last + 1
-    go (inl e) = omega (arith, eqb→eq stored 0 e)
-    go (inr l) = omega (arith, leb→le (stored - 1) last l)
-
-pub le→after : (last stored : ℕ) → stored ≤ last + 1 → T (notAfter last stored)
-le→after last stored h = or-r (eqb stored 0) (leb (stored - 1) last) (le→leb (stored - 1) last (omega arith))
 
 -- ---- a run
 
@@ -167,4 +155,4 @@ module _ (ticks : List ℕ) (h p last : ℕ) (ph : p < h) where
       one f q qh =
           let g = falls h p ticks f 0 (back h p q) (omega (arith, back-lt h p ph q qh)) in
           let z : 0 + back h p q ≡ back h p q = omega arith in
-          le→after last (getD ticks q 0) (omega (arith, rw (z, back-back h p ph q qh) at g, after→le last (getD ticks (back h p 0) 0) new))
+          after-not last (getD ticks q 0) (omega (arith, rw (z, back-back h p ph q qh) at g, not-after last (getD ticks (back h p 0) 0) new))

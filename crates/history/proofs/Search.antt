@@ -1,50 +1,18 @@
--- The search of a history that was tested, and what its result tells about any history.
-use mathlib.Core.Path.{_≡_, refl, sym, ap, _∙_, subst}
+-- The search of a history that was tested, step by step.
+use mathlib.Core.Path.{_≡_, refl, sym, ap, _∙_}
 use mathlib.Core.Logic.{inl, inr}
 use mathlib.Core.List.{List}
-use mathlib.Core.Bool.{Bool, true, false, not, _&&_}
-use Prim.Native.Nat.{ℕ, zero, suc, _+_, _-_, _≤_, _<_}
+use mathlib.Core.Bool.{Bool, true, false}
+use Prim.Native.Nat.{ℕ, suc, _+_, _-_, _≤_, _<_}
 use native.Mathlib.Omega.{arith}
 use native.Mathlib.Numerals.{add-one}
-use lib.Dec.{T, leb, ltb, eqb, leb→le, le→leb, ltb→lt, lt→ltb, eqb→eq, eqb-refl, not-T}
+use lib.Dec.{T}
 use lib.ListN.{getD}
 use Rattle.rules.specs.Cells.{every}
-use Rattle.rules.specs.History.{back, notAfter, neverRises, matches, findFrom, find}
-use Rattle.rules.proofs.Tests.{and-i, and-l, and-r, every-at}
-use Rattle.rules.proofs.Ring.{back-lt, falls, Found, found, hit}
-use Rattle.history.proofs.Runs.{after→le}
-
--- ---- one place
-
--- what a match tells of its stored tick and its row word
-pub match-stored : (td word t stored w : ℕ) → T (matches td word t stored w) → (1 ≤ stored) × (stored ≤ t + 1) × (t + 1 - td < stored) × (w ≡ word)
-match-stored td word t stored w m =
-    let a = not (eqb stored 0) in
-    let b = eqb w word in
-    let d = leb (stored - 1) t in
-    let e = ltb t (stored - 1 + td) in
-    let m3 = and-l (a && b && d) e m in
-    let m2 = and-l (a && b) d m3 in
-    let pos : 1 ≤ stored = positive stored (and-l a b m2) in
-    let low : stored ≤ t + 1 = omega (arith, leb→le (stored - 1) t (and-r (a && b) d m3)) in
-    (pos, low, omega (arith, ltb→lt t (stored - 1 + td) (and-r (a && b && d) e m)), eqb→eq w word (and-r a b m2))
-  where
-    positive : (n : ℕ) → T (not (eqb n 0)) → 1 ≤ n
-    positive zero z = absurd z
-    positive (suc n) z = omega arith
-
-pub match-of : (td word t stored w : ℕ) → stored ≤ t + 1 → t + 1 - td < stored → w ≡ word → T (matches td word t stored w)
-match-of td word t stored w low new e =
-    let a = not (eqb stored 0) in
-    let b = eqb w word in
-    let d = leb (stored - 1) t in
-    and-i (a && b && d) (ltb t (stored - 1 + td))
-    (and-i (a && b) d
-    (and-i a b (not-T (eqb stored 0) (λ z. omega (arith, eqb→eq stored 0 z))) (subst (λ x. T (eqb w x)) e (eqb-refl w)))
-    (le→leb (stored - 1) t (omega arith)))
-    (lt→ltb t (stored - 1 + td) (omega arith))
-
--- ---- the search of a tested history, step by step
+use Rattle.rules.specs.History.{back, notAfter, neverRises, findFrom, find}
+use Rattle.rules.proofs.Tests.{every-at}
+use Rattle.rules.proofs.Ring.{back-lt, falls, match-parts, match-make, Found, found, hit}
+use Rattle.rules.proofs.Memory.{not-after}
 
 here-or : (b : Bool) (x y : ℕ) → T b → elim b [ true ↦ x | false ↦ y ] ≡ x
 here-or true x y h = refl
@@ -84,17 +52,18 @@ module _ (h td p : ℕ) (ticks rows : List ℕ) (word t : ℕ) (ph : p < h) wher
       go (inr f) =
           let k = f .0 in
           let z : i + (k - i) ≡ k = omega (arith, f .2) in
-          let m = match-stored td word t (getD ticks (back h p k) 0) (getD rows (back h p k) 0) (f .4) in
+          let m = match-parts td word t (getD ticks (back h p k) 0) (getD rows (back h p k) 0) (f .4) in
           let g = falls h p ticks s i (k - i) (omega (arith, f .2, f .3)) in
-          absurd (omega (arith, rw z at g, m .2, rw eq at old))
+          absurd (omega (arith, rw z at g, rw eq at old))
 
   module _ (i q limit : ℕ) (ih : i < h) (eq : q ≡ back h p i) (el : limit ≡ t + 1 - td) where
     -- the place is not too old and has the row
     pub search-hit : T (every h (λ x. notAfter t (getD ticks x 0))) → limit < getD ticks q 0 → getD rows q 0 ≡ word → findFrom h td p ticks rows word t i (h - i) ≡ q
     search-hit a new e =
+        let low : getD ticks q 0 ≤ t + 1 = not-after t (getD ticks q 0) (every-at h (λ x. notAfter t (getD ticks x 0)) a q (rw eq (back-lt h p ph i ih))) in
         one-left i ih
         ∙ here-or (hit h td p ticks rows word t ph i) (back h p i) (findFrom h td p ticks rows word t (suc i) (h - (i + 1)))
-        (rw eq at (match-of td word t (getD ticks q 0) (getD rows q 0) (after→le t (getD ticks q 0) (every-at h (λ x. notAfter t (getD ticks x 0)) a q (rw eq (back-lt h p ph i ih)))) (omega arith) e))
+        (rw eq at (match-make td word t (getD ticks q 0) (getD rows q 0) (record { some = omega arith; same = e; past = omega arith; young = omega arith })))
         ∙ sym eq
 
     -- it has another row
@@ -102,5 +71,5 @@ module _ (h td p : ℕ) (ticks rows : List ℕ) (word t : ℕ) (ph : p < h) wher
     search-on e =
         one-left i ih
         ∙ or-further (hit h td p ticks rows word t ph i) (back h p i) (findFrom h td p ticks rows word t (suc i) (h - (i + 1)))
-        (λ m. e (rw eq (match-stored td word t (getD ticks (back h p i) 0) (getD rows (back h p i) 0) m .3)))
+        (λ m. e (rw eq (match-parts td word t (getD ticks (back h p i) 0) (getD rows (back h p i) 0) m .same)))
         ∙ ap (λ x. findFrom h td p ticks rows word t x (h - (i + 1))) (sym (add-one i))

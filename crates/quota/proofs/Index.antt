@@ -4,26 +4,18 @@ use mathlib.Core.List.{List}
 use mathlib.Core.Bool.{true, false}
 use Prim.Native.Nat.{ℕ, _+_, _-_, _*_, _/_, _^_, _≤_, _<_, min}
 use native.Mathlib.Omega.{arith}
-use native.Mathlib.Nat.{mul-le-mul, mul-le-mul-left, div-le-of-le-mul}
-use lib.Arith.{digits-lt}
+use native.Mathlib.Nat.{mul-le-mul}
 use lib.ListN.{getD, set}
 use Rattle.rules.specs.declared.Setting.{Setting}
-use Rattle.rules.specs.Setting.{Limits, indexScale, rowBound}
-use Rattle.rules.specs.State.{threadCell, threadsUsed}
+use Rattle.rules.specs.Setting.{indexScale}
+use Rattle.rules.specs.State.{threadCell}
 use Rattle.rules.specs.Filter.{raised}
 use Rattle.rules.specs.Quota.{quotaDown}
 use Rattle.rules.specs.Decision.{activatedThreads}
-use Rattle.rules.proofs.Accept.{Accepted}
 
 -- the k-th cell from the first
 pub cell-at : (s : Setting) (bank thread at k : ℕ) → at ≡ threadCell s bank thread 0 → at + k ≡ threadCell s bank thread k
 cell-at s bank thread at k e = omega arith
-
--- a thread's three cells are within the used part
-pub cell-in : (s : Setting) (bank thread : ℕ) → bank < s .banks → thread < s .threads → (bank * s .threads + thread) * 3 + 3 ≤ threadsUsed s
-cell-in s bank thread hb ht =
-    let h : bank * s .threads + thread < s .banks * s .threads = digits-lt {q = bank} {m = s .banks} {r = thread} {c = s .threads} hb ht in
-    omega arith
 
 -- the place of a thread's group is small
 pub group-small : (s : Setting) (bank : ℕ) → bank < s .banks → s .banks ≤ 16 → s .threads ≤ 32 → bank * s .threads ≤ 16 * 32
@@ -33,19 +25,10 @@ group-small s bank hb h k = mul-le-mul {n₂ = 16} {m₂ = 32} (omega arith) k
 pub share-small : (q left : ℕ) → q ≤ 255 → left ≤ 2 ^ 24 → q * left ≤ 255 * 2 ^ 24
 share-small q left h k = mul-le-mul {n₂ = 255} {m₂ = 16777216} h k
 
--- the quota is at most Q
-pub share-le : (q left scale : ℕ) → left ≤ scale → q * left / scale ≤ q
-share-le q left scale h = div-le-of-le-mul scale {m = q * left} {n = q} (omega (arith, mul-le-mul-left q h))
-
 -- with the full scale not 0 and what is left of it as `remaining` gives it
 pub quota-is : (s : Setting) (c left : ℕ) → left ≡ indexScale s - min c (indexScale s) → s .q * left / indexScale s ≡ quotaDown s c
 unfolding quotaDown
 quota-is s c left e = rw e
-
--- an accepted setting has a full scale of 1 or more
-pub scale-pos : {m : Limits} {s : Setting} {seeds : List ℕ} → Accepted m s seeds → s .n < s .l
-unfolding rowBound
-scale-pos ok = omega (arith, ok .bound)
 
 -- what a thread's cell holds, by its place from the first
 pub held-at : (s : Setting) (ts : List ℕ) (bank thread at k : ℕ) → at ≡ threadCell s bank thread 0

@@ -1,14 +1,14 @@
 -- What a setting that is not refused, and a call that is not refused, can count on.
-use mathlib.Core.Path.{_≡_, refl, sym, ap, _∙_, subst}
+use mathlib.Core.Path.{_≡_, refl, ap}
 use mathlib.Core.List.{List}
 use mathlib.Core.Bool.{Bool, true, false, not, _&&_, _||_}
-use Prim.Native.Nat.{ℕ, zero, suc, _+_, _-_, _*_, _/_, _%_, _^_, _≤_, _<_}
+use Prim.Native.Nat.{ℕ, zero, suc, _+_, _-_, _*_, _%_, _^_, _≤_, _<_}
 use native.Mathlib.Omega.{arith}
 use native.Mathlib.Nat.{lt-div-mul-add}
-use lib.Dec.{T, leb, ltb, eqb, leb→le, ltb→lt, nltb→le, nleb→lt, eqb→eq}
+use lib.Dec.{T, leb, ltb, eqb, leb→le, nltb→le, nleb→lt, eqb→eq}
 use lib.ListN.{length, getD}
 use Rattle.rules.specs.declared.Setting.{Setting}
-use Rattle.rules.specs.Cells.{ceilDiv, between}
+use Rattle.rules.specs.Cells.{ceilDiv}
 use Rattle.rules.specs.Answers.{Refusal, none, outOfRange, shortWindow, badDelay, longHistory, aboveLimit, shortBuffer, badMemory, outsideSetting, badTick, noneInFlight, refusalNumber, refuse, orElse}
 use Rattle.rules.specs.Setting.{Limits, epochLength, historyLength, rowBound, fieldsInRange, seedsInRange, settingRefusal}
 use Rattle.rules.specs.State.{State, countersUsed, threadsUsed, threadCell, tooShort}
@@ -19,37 +19,26 @@ use Rattle.rules.proofs.Tests.{and-l, and-r, not-or, not-not}
 
 -- ---- the order of refusals
 
--- one that is none has number 0, and no other has
-pub number-none : (r : Refusal) → refusalNumber r ≡ 0 → r ≡ none
-number-none none e = refl
-number-none outOfRange e = absurd (omega arith)
-number-none shortWindow e = absurd (omega arith)
-number-none badDelay e = absurd (omega arith)
-number-none longHistory e = absurd (omega arith)
-number-none aboveLimit e = absurd (omega arith)
-number-none shortBuffer e = absurd (omega arith)
-number-none badMemory e = absurd (omega arith)
-number-none outsideSetting e = absurd (omega arith)
-number-none badTick e = absurd (omega arith)
-number-none noneInFlight e = absurd (omega arith)
+-- what holds of the later refusal where the earlier one is none, and of the earlier one where it has a number, holds of the first of the two
+pub first-refusal : (P : Refusal → Type 0) (a b : Refusal) → (a ≡ none → P b) → (0 < refusalNumber a → P a) → P (orElse a b)
+first-refusal P none b f g = f refl
+first-refusal P outOfRange b f g = g (omega arith)
+first-refusal P shortWindow b f g = g (omega arith)
+first-refusal P badDelay b f g = g (omega arith)
+first-refusal P longHistory b f g = g (omega arith)
+first-refusal P aboveLimit b f g = g (omega arith)
+first-refusal P shortBuffer b f g = g (omega arith)
+first-refusal P badMemory b f g = g (omega arith)
+first-refusal P outsideSetting b f g = g (omega arith)
+first-refusal P badTick b f g = g (omega arith)
+first-refusal P noneInFlight b f g = g (omega arith)
 
-number-orElse : (a b : Refusal) → refusalNumber (orElse a b) ≡ 0 → (refusalNumber a ≡ 0) × (refusalNumber b ≡ 0)
-number-orElse none b e = (refl, e)
-number-orElse outOfRange b e = absurd (omega arith)
-number-orElse shortWindow b e = absurd (omega arith)
-number-orElse badDelay b e = absurd (omega arith)
-number-orElse longHistory b e = absurd (omega arith)
-number-orElse aboveLimit b e = absurd (omega arith)
-number-orElse shortBuffer b e = absurd (omega arith)
-number-orElse badMemory b e = absurd (omega arith)
-number-orElse outsideSetting b e = absurd (omega arith)
-number-orElse badTick b e = absurd (omega arith)
-number-orElse noneInFlight b e = absurd (omega arith)
+-- only none has number 0
+pub number-none : (r : Refusal) → refusalNumber r ≡ 0 → r ≡ none
+number-none r e = first-refusal (λ x. r ≡ none) r none (λ z. z) (λ h. absurd (omega arith))
 
 pub orElse-none : (a b : Refusal) → orElse a b ≡ none → (a ≡ none) × (b ≡ none)
-orElse-none a b e =
-    let n = number-orElse a b (ap refusalNumber e) in
-    (number-none a (n .0), number-none b (n .1))
+orElse-none a b e = first-refusal (λ x. x ≡ none → (a ≡ none) × (b ≡ none)) a b (λ z y. (z, y)) (λ h y. absurd (omega (arith, ap refusalNumber y))) e
 
 pub refuse-none : (b : Bool) (r rest : Refusal) → 0 < refusalNumber r → refuse b r rest ≡ none → T (not b) × (rest ≡ none)
 refuse-none true r rest h e = absurd (omega (arith, ap refusalNumber e))
@@ -57,7 +46,8 @@ refuse-none false r rest h e = (tt, e)
 
 -- ---- an accepted setting
 
-pub record Accepted (m : Limits) (s : Setting) (seeds : List ℕ) : Type 0 where
+-- the fields of the setting are in the ranges of the table
+pub record Ranges (m : Limits) (s : Setting) : Type 0 where
   pub w-low : 2 ≤ s .w
   pub w-high : s .w ≤ 2 ^ 30
   pub even : s .w % 2 ≡ 0
@@ -77,23 +67,10 @@ pub record Accepted (m : Limits) (s : Setting) (seeds : List ℕ) : Type 0 where
   pub banks-high : s .banks ≤ 16
   pub threads-low : 1 ≤ s .threads
   pub threads-high : s .threads ≤ 32
-  pub seeds-ok : T (seedsInRange seeds)
-  pub room : 2 * s .n * s .trc ≤ s .w - 1
-  pub gaps : s .trc ≤ s .td
-  pub delay : s .td ≤ epochLength s
-  pub short : historyLength s ≤ m .history
-  pub bound : rowBound s ≤ s .l
 
-pub accepted : (m : Limits) (s : Setting) (seeds : List ℕ) → settingRefusal m s seeds ≡ none → Accepted m s seeds
-unfolding settingRefusal fieldsInRange
-accepted m s seeds e =
-    let r1 = refuse-none (not (fieldsInRange m s && seedsInRange seeds)) outOfRange _ (omega arith) e in
-    let r2 = refuse-none (ltb (s .w - 1) (2 * s .n * s .trc)) shortWindow _ (omega arith) (r1 .1) in
-    let r3 = refuse-none (ltb (s .td) (s .trc) || ltb (epochLength s) (s .td)) badDelay _ (omega arith) (r2 .1) in
-    let r4 = refuse-none (ltb (m .history) (historyLength s)) longHistory _ (omega arith) (r3 .1) in
-    let r5 = refuse-none (ltb (s .l) (rowBound s)) aboveLimit none (omega arith) (r4 .1) in
-    let n3 = not-or (ltb (s .td) (s .trc)) (ltb (epochLength s) (s .td)) (r3 .0) in
-    let ok : T (fieldsInRange m s && seedsInRange seeds) = not-not (fieldsInRange m s && seedsInRange seeds) (r1 .0) in
+pub ranges : (m : Limits) (s : Setting) → T (fieldsInRange m s) → Ranges m s
+unfolding fieldsInRange
+ranges m s ok =
     record {
       w-low = leb→le 2 (s .w) (search (and-l, and-r) depth 20);
       w-high = leb→le (s .w) (2 ^ 30) (search (and-l, and-r) depth 20);
@@ -114,13 +91,41 @@ accepted m s seeds e =
       banks-high = leb→le (s .banks) 16 (search (and-l, and-r) depth 20);
       threads-low = leb→le 1 (s .threads) (search (and-l, and-r) depth 20);
       threads-high = leb→le (s .threads) 32 (search (and-l, and-r) depth 20);
-      seeds-ok = search (and-l, and-r) depth 20;
+    }
+
+pub record Accepted (m : Limits) (s : Setting) (seeds : List ℕ) : Type 0 where
+  pub ranges : Ranges m s
+  pub seeds-ok : T (seedsInRange seeds)
+  pub room : 2 * s .n * s .trc ≤ s .w - 1
+  pub gaps : s .trc ≤ s .td
+  pub delay : s .td ≤ epochLength s
+  pub short : historyLength s ≤ m .history
+  pub bound : rowBound s ≤ s .l
+
+pub accepted : (m : Limits) (s : Setting) (seeds : List ℕ) → settingRefusal m s seeds ≡ none → Accepted m s seeds
+unfolding settingRefusal
+accepted m s seeds e =
+    let r1 = refuse-none (not (fieldsInRange m s && seedsInRange seeds)) outOfRange _ (omega arith) e in
+    let r2 = refuse-none (ltb (s .w - 1) (2 * s .n * s .trc)) shortWindow _ (omega arith) (r1 .1) in
+    let r3 = refuse-none (ltb (s .td) (s .trc) || ltb (epochLength s) (s .td)) badDelay _ (omega arith) (r2 .1) in
+    let r4 = refuse-none (ltb (m .history) (historyLength s)) longHistory _ (omega arith) (r3 .1) in
+    let r5 = refuse-none (ltb (s .l) (rowBound s)) aboveLimit none (omega arith) (r4 .1) in
+    let n3 = not-or (ltb (s .td) (s .trc)) (ltb (epochLength s) (s .td)) (r3 .0) in
+    let ok : T (fieldsInRange m s && seedsInRange seeds) = not-not (fieldsInRange m s && seedsInRange seeds) (r1 .0) in
+    record {
+      ranges = ranges m s (and-l (fieldsInRange m s) (seedsInRange seeds) ok);
+      seeds-ok = and-r (fieldsInRange m s) (seedsInRange seeds) ok;
       room = nltb→le (s .w - 1) (2 * s .n * s .trc) (r2 .0);
       gaps = nltb→le (s .td) (s .trc) (n3 .0);
       delay = nltb→le (epochLength s) (s .td) (n3 .1);
       short = nltb→le (m .history) (historyLength s) (r4 .0);
       bound = nltb→le (s .l) (rowBound s) (r5 .0);
     }
+
+-- the index has a full scale of 1 or more
+pub scale-pos : {m : Limits} {s : Setting} {seeds : List ℕ} → Accepted m s seeds → s .n < s .l
+unfolding rowBound
+scale-pos ok = omega (arith, ok .bound)
 
 pub ceil-cover : (a b : ℕ) → 1 ≤ b → a ≤ ceilDiv a b * b
 ceil-cover a b h = omega (arith, lt-div-mul-add {a = a + (b - 1)} {b = b} h)
@@ -133,16 +138,16 @@ left-pos (suc c) g h = omega arith
 pub history-pos : {m : Limits} {s : Setting} {seeds : List ℕ} → Accepted m s seeds → 0 < historyLength s
 unfolding historyLength
 history-pos {s = s} ok =
-    omega (arith, left-pos (ceilDiv (s .td) (s .tfaw)) (s .tfaw) (omega (arith, ok .td-low, ceil-cover (s .td) (s .tfaw) (ok .tfaw-low))))
+    omega (arith, left-pos (ceilDiv (s .td) (s .tfaw)) (s .tfaw) (omega (arith, ok .ranges .td-low, ceil-cover (s .td) (s .tfaw) (ok .ranges .tfaw-low))))
 
 -- an epoch has two ticks or more: W = 2 is refused with 2
 pub epoch-long : {m : Limits} {s : Setting} {seeds : List ℕ} → Accepted m s seeds → 2 ≤ epochLength s
-epoch-long {s = s} ok = go (s .n) (s .trc) (ok .n-low) (ok .trc-low) (ok .room)
+epoch-long {s = s} ok = go (s .n) (s .trc) (ok .ranges .n-low) (ok .ranges .trc-low) (ok .room)
   where
     go : (n c : ℕ) → 1 ≤ n → 1 ≤ c → 2 * n * c ≤ s .w - 1 → 2 ≤ epochLength s
     go zero c h k r = absurd (omega arith)
     go (suc n) zero h k r = absurd (omega arith)
-    go (suc n) (suc c) h k r = omega (arith, ok .even)
+    go (suc n) (suc c) h k r = omega (arith, ok .ranges .even)
 
 -- ---- a call that is not refused
 

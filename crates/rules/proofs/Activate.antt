@@ -1,14 +1,14 @@
 -- An activation that the bank, rank and row rules let pass keeps the invariant. The state's clock stands at its tick.
-use mathlib.Core.Path.{_≡_, refl, sym, ap, _∙_, subst}
+use mathlib.Core.Path.{_≡_, refl, sym, _∙_}
 use mathlib.Core.Logic.{_⊎_, inl, inr}
-use mathlib.Core.List.{List, [], _∷_, map}
-use mathlib.Core.Bool.{Bool, true, false, not, _&&_, _||_}
-use Prim.Native.Nat.{ℕ, zero, suc, _+_, _-_, _*_, _/_, _%_, _≤_, _<_, min}
+use mathlib.Core.List.{List, _∷_, map}
+use mathlib.Core.Bool.{Bool, true, false, not, _&&_}
+use Prim.Native.Nat.{ℕ, zero, suc, _+_, _-_, _*_, _%_, _≤_, _<_, min}
 use native.Mathlib.Omega.{arith}
 use native.Mathlib.Decide.{decLt, ℕ-discrete}
 use native.Mathlib.Nat.{le-refl, le-trans}
-use lib.Dec.{T, leb, ltb, eqb, leb→le, le→leb, lt→ltb, nleb→lt, eqb→eq, eqb-refl, T-not, not-T}
-use lib.ListN.{length, getD, set, drop, length-set}
+use lib.Dec.{T, leb, eqb, leb→le, nleb→lt, eqb→eq, T-not}
+use lib.ListN.{getD, set, drop, length-set}
 use lib.Seq.{getD-set-same, getD-set-other}
 use Rattle.rules.specs.declared.Setting.{Setting}
 use Rattle.rules.specs.Cells.{ceilDiv, more, All}
@@ -16,11 +16,11 @@ use Rattle.rules.specs.Setting.{Limits, historyLength}
 use Rattle.rules.specs.State.{State, counterCell, rowWord, cells}
 use Rattle.rules.specs.Clock.{epoch, activeFilter}
 use Rattle.rules.specs.Hash.{places}
-use Rattle.rules.specs.Filter.{estimate, blacklisted, counted}
-use Rattle.rules.specs.History.{nextPlace, back, matches, rowFree}
+use Rattle.rules.specs.Filter.{blacklisted, counted}
+use Rattle.rules.specs.History.{nextPlace, back, rowFree}
 use Rattle.rules.specs.Decision.{passed, bankRule, rankRule, activeEstimate, rowRule, activatedHead, activated}
 use Rattle.rules.specs.Calls.{Activation, ofRow}
-use Rattle.rules.proofs.Tests.{or-e}
+use Rattle.rules.proofs.Tests.{or-e, holds}
 use Rattle.rules.proofs.Cells.{getD-first}
 use Rattle.rules.proofs.Counting.{all-map}
 use Rattle.rules.proofs.Places.{place-lt}
@@ -77,7 +77,7 @@ module _ (m : Limits) (s : Setting) (seeds : List ℕ) (ok : Accepted m s seeds)
       far = ranked-old (s .tfaw) t (ceilDiv (s .td) (s .tfaw)) tr (i .ranked) (i .latest)
 
       old : All (λ x. T (ofRow b r x) → x .tick + s .td ≤ t) (drop H tr)
-      old = all-map (λ x k q. omega (arith, ceil-cover (s .td) (s .tfaw) (ok .tfaw-low))) (drop H tr) far
+      old = all-map (λ x k q. omega (arith, ceil-cover (s .td) (s .tfaw) (ok .ranges .tfaw-low))) (drop H tr) far
 
       young : (j : ℕ) (x : Activation) → j < H → At tr j x → T (ofRow b r x) → x .tick + s .td ≤ t
       young j x jH a q = go (decLt t (x .tick + s .td))
@@ -119,7 +119,7 @@ module _ (m : Limits) (s : Setting) (seeds : List ℕ) (ok : Accepted m s seeds)
       go : (x : Bool) → ofRow b′ r′ new ≡ x → min (s .n) (more (x && leb k (epoch s t + 1)) n) ≤ getD (counted (s .n) b at cs) (counterCell b′ f h) 0
       go false e = le-trans (old b′ r′ h bh′ q) (counted-le (s .n) b at cs (counterCell b′ f h))
       go true e =
-          let mine : T (ofRow b′ r′ new) = subst T (sym e) tt in
+          let mine : T (ofRow b′ r′ new) = holds (ofRow b′ r′ new) e in
           let eb : b ≡ b′ = row-bank b′ r′ new mine in
           let er : r ≡ r′ = row-row b′ r′ new mine in
           let small : h < 1024 = place-lt seeds (ok .seeds-ok) r′ h q in

@@ -1,16 +1,17 @@
--- Lists of cells: what a change by place and content does to each cell.
-use mathlib.Core.Path.{_≡_, refl, sym, ap, _∙_, subst}
+-- Lists of cells: what a change by place and content does to each cell, one change after another, a store; and where a thread's cells lie.
+use mathlib.Core.Path.{_≡_, refl, sym, ap, _∙_}
+use mathlib.Core.Logic.{_≢_}
 use mathlib.Core.List.{List, [], _∷_}
-use mathlib.Core.Bool.{Bool, true, false, not, cond}
-use Prim.Native.Nat.{ℕ, zero, suc, _+_, _≤_, _<_}
+use Prim.Native.Nat.{ℕ, zero, suc, _+_, _*_, _<_}
 use native.Mathlib.Omega.{arith}
 use native.Mathlib.Nat.{zero-add, add-zero}
-use lib.Dec.{T}
-use lib.ListN.{length, getD}
-use lib.Seq.{ext-getD}
-use Rattle.rules.specs.Cells.{mapFrom, mapCells, clearCells, All}
-use Rattle.rules.specs.State.{cells}
-use Rattle.rules.proofs.Tests.{cond-yes, cond-no}
+use native.Mathlib.Decide.{decLt, ℕ-discrete}
+use lib.Arith.{digits-lt}
+use lib.ListN.{length, getD, set, length-set}
+use lib.Seq.{ext-getD, getD-set-same, getD-set-other, set-out}
+use Rattle.rules.specs.declared.Setting.{Setting}
+use Rattle.rules.specs.Cells.{mapFrom, mapCells, All}
+use Rattle.rules.specs.State.{threadsUsed, threadCell, cells}
 
 pub length-mapFrom : (f : ℕ → ℕ → ℕ) (i : ℕ) (cs : List ℕ) → length (mapFrom f i cs) ≡ length cs
 length-mapFrom f i [] = refl
@@ -42,20 +43,35 @@ getD-kept f i j [] h = refl
 getD-kept f i zero (c ∷ cs) h = ap (λ x. f x c) (sym (add-zero i)) ∙ h c
 getD-kept f i (suc j) (c ∷ cs) h = getD-kept f (suc i) j cs (λ x. let e : suc i + j ≡ i + suc j = omega arith in ap (λ k. f k x) e ∙ h x)
 
-pub clear-kept : (p : ℕ → Bool) (j : ℕ) (cs : List ℕ) → T (not (p j)) → getD (clearCells p cs) j 0 ≡ getD cs j 0
-clear-kept p j cs h = getD-kept (λ i c. cond (p i) 0 c) 0 j cs (λ c. ap (λ x. cond (p x) 0 c) (zero-add j) ∙ cond-no (p j) 0 c h)
-
-pub clear-zero : (p : ℕ → Bool) (j : ℕ) (cs : List ℕ) → T (p j) → getD (clearCells p cs) j 0 ≡ 0
-clear-zero p j cs h = go 0 j cs (subst (λ x. T (p x)) (sym (zero-add j)) h)
-  where
-    go : (i k : ℕ) (l : List ℕ) → T (p (i + k)) → getD (mapFrom (λ i c. cond (p i) 0 c) i l) k 0 ≡ 0
-    go i k [] x = refl
-    go i zero (c ∷ l) x = cond-yes (p i) 0 c (rw add-zero at x)
-    go i (suc k) (c ∷ l) x = go (suc i) k l (subst (λ y. T (p y)) (omega arith) x)
-
 -- a change that does nothing
 pub map-same : (f : ℕ → ℕ → ℕ) → ((i c : ℕ) → f i c ≡ c) → (cs : List ℕ) → mapCells f cs ≡ cs
 map-same f h cs = sym (is-mapCells f cs cs refl (λ j k. sym (h j (getD cs j 0))))
+
+-- one change after another is a change
+pub map-map : (f g h : ℕ → ℕ → ℕ) (cs : List ℕ) → ((i c : ℕ) → f i (g i c) ≡ h i c) → mapCells f (mapCells g cs) ≡ mapCells h cs
+map-map f g h cs e =
+    is-mapCells h (mapCells f (mapCells g cs)) cs (length-mapCells f (mapCells g cs) ∙ length-mapCells g cs)
+    (λ j k. getD-mapCells f j (mapCells g cs) (rw (length-mapCells g cs) k) ∙ ap (f j) (getD-mapCells g j cs k) ∙ e j (getD cs j 0))
+
+-- a store after a change is a change that has the stored value at its cell and agrees with the first elsewhere
+pub store-map : (f h : ℕ → ℕ → ℕ) (cs : List ℕ) (a v : ℕ) → a < length cs → v ≡ h a (getD cs a 0)
+    → ((i c : ℕ) → i ≢ a → f i c ≡ h i c) → set (mapCells f cs) a v ≡ mapCells h cs
+store-map f h cs a v ok ev e =
+    is-mapCells h (set (mapCells f cs) a v) cs (length-set (mapCells f cs) a v ∙ length-mapCells f cs)
+    (λ j k. go j k (ℕ-discrete j a))
+  where
+    go : (j : ℕ) → j < length cs → Dec (j ≡ a) → getD (set (mapCells f cs) a v) j 0 ≡ h j (getD cs j 0)
+    go j k (yes p) = rw p (getD-set-same (mapCells f cs) a v 0 (rw (length-mapCells f cs) ok) ∙ ev)
+    go j k (no p) = getD-set-other (mapCells f cs) a j v 0 p ∙ getD-mapCells f j cs k ∙ e j (getD cs j 0) p
+
+-- what holds of a cell and of a value holds of the cell after the value is stored somewhere
+pub set-cell : (P : ℕ → Type 0) (l : List ℕ) (i j v : ℕ) → P v → P (getD l j 0) → P (getD (set l i v) j 0)
+set-cell P l i j v hv h = go (ℕ-discrete j i) (decLt i (length l))
+  where
+    go : Dec (j ≡ i) → Dec (i < length l) → P (getD (set l i v) j 0)
+    go (yes e) (yes k) = rw (e, getD-set-same l i v 0 k) hv
+    go (yes e) (no k) = rw (set-out l i v (omega arith)) h
+    go (no e) d = rw (getD-set-other l i j v 0 e) h
 
 -- what holds of each cell before, and of each changed cell, holds after
 pub all-mapFrom : (P : ℕ → Type 0) (f : ℕ → ℕ → ℕ) → ((i c : ℕ) → P c → P (f i c)) → (i : ℕ) (cs : List ℕ) → All P cs → All P (mapFrom f i cs)
@@ -72,3 +88,9 @@ getD-cells l i (suc n) (suc k) h =
 
 pub getD-first : (l : List ℕ) (n k : ℕ) → k < n → getD (cells l 0 n) k 0 ≡ getD l k 0
 getD-first l n k h = getD-cells l 0 n k h ∙ ap (λ x. getD l x 0) (zero-add k)
+
+-- a thread's three cells are within the used part
+pub thread-in : (s : Setting) (bank thread k : ℕ) → bank < s .banks → thread < s .threads → k < 3 → threadCell s bank thread k < threadsUsed s
+thread-in s bank thread k hb ht hk =
+    let h : bank * s .threads + thread < s .banks * s .threads = digits-lt {q = bank} {m = s .banks} {r = thread} {c = s .threads} hb ht in
+    omega arith

@@ -1,8 +1,8 @@
 -- Demand 3, from the theorem about spans of every length.
-use mathlib.Core.Path.{_≡_, refl, sym, ap, _∙_}
+use mathlib.Core.Path.{_≡_, ap, _∙_}
 use mathlib.Core.List.{List, []}
-use mathlib.Core.Bool.{Bool, _&&_, cond}
-use Prim.Native.Nat.{ℕ, _+_, _-_, _*_, _/_, _%_, _≤_, _<_}
+use mathlib.Core.Bool.{_&&_}
+use Prim.Native.Nat.{ℕ, _+_, _-_, _*_, _/_, _≤_, _<_}
 use native.Mathlib.Omega.{arith}
 use native.Mathlib.Nat.{le-div-iff-mul-le, div-lt-iff-lt-mul}
 use lib.Dec.{leb, le→leb}
@@ -14,7 +14,7 @@ use Rattle.rules.specs.Quota.{Policy}
 use Rattle.rules.specs.Calls.{ofRow, inSpan}
 use Rattle.rules.specs.Claims.{freeMost, spanBound, Spans, Demand3}
 use Rattle.rules.proofs.Tests.{cond-yes}
-use Rattle.rules.proofs.Accept.{Accepted, SetUp, set-up, epoch-long}
+use Rattle.rules.proofs.Accept.{Accepted, set-up, epoch-long}
 use Rattle.rules.proofs.Trace.{lawful-span}
 use Rattle.rules.proofs.Step.{fresh-holds, run-holds}
 
@@ -26,7 +26,7 @@ spans p s seeds before e cs bank row start x x1 =
     omega (
       arith,
       run .2 (λ o. ofRow bank row o && inSpan start x (o .tick)),
-      lawful-span s (omega (arith, epoch-long ok)) (ok .trc-low) (ok .gaps) (run .0) (run .1 .lawful) bank row start x x1,
+      lawful-span s (omega (arith, epoch-long ok)) (ok .ranges .trc-low) (ok .gaps) (run .0) (run .1 .lawful) bank row start x x1,
     )
 
 -- the bound for a span of W ticks is B: three epochs meet it, so F is 2N
@@ -40,7 +40,7 @@ window-epochs d h =
 window-bound : (p : Policy) (s : Setting) (seeds : List ℕ) → Accepted (p .limits) s seeds → spanBound s (s .w) ≡ rowBound s
 unfolding spanBound rowBound
 window-bound p s seeds ok =
-    let halves : s .w ≡ 2 * epochLength s = omega (arith, ok .even) in
+    let halves : s .w ≡ 2 * epochLength s = omega (arith, ok .ranges .even) in
     let pairs : ceilDiv (ceilDiv (s .w - 1) (epochLength s) + 1) 2 ≡ 2 =
     ap (λ w. ceilDiv (ceilDiv (w - 1) (epochLength s) + 1) 2) halves ∙ window-epochs (epochLength s) (epoch-long ok) in
     let free : freeMost s (s .w) ≡ 2 * s .n = ap (λ k. s .n * k) pairs ∙ omega arith in
@@ -50,4 +50,4 @@ window-bound p s seeds ok =
 pub demand-3 : (p : Policy) → Demand3 p
 demand-3 p s seeds before e cs bank row start =
     let ok = set-up p s seeds before e .setting in
-    omega (arith, spans p s seeds before e cs bank row start (s .w) (omega (arith, ok .w-low)), window-bound p s seeds ok, ok .bound)
+    omega (arith, spans p s seeds before e cs bank row start (s .w) (omega (arith, ok .ranges .w-low)), window-bound p s seeds ok, ok .bound)

@@ -1,19 +1,20 @@
 -- The filters: an activation raises each counter of its row, for counters of any width; the estimate is no more than each counter.
-use mathlib.Core.Path.{_≡_, refl, sym, ap, _∙_, subst}
+use mathlib.Core.Path.{_≡_, refl, subst}
 use mathlib.Core.Logic.{_⊎_, inl, inr}
 use mathlib.Core.List.{List, [], _∷_, map}
-use mathlib.Core.Bool.{Bool, true, false, not, _||_, cond}
-use Prim.Native.Nat.{ℕ, zero, suc, _+_, _*_, _^_, _≤_, _<_, min}
+use mathlib.Core.Bool.{Bool, true, false, _||_, cond}
+use Prim.Native.Nat.{ℕ, zero, suc, _+_, _≤_, _<_, min}
 use native.Mathlib.Omega.{arith}
 use native.Mathlib.Nat.{le-min, le-refl}
 use native.Mathlib.Decide.{decLt}
-use lib.Dec.{T, ltb, eqb, nltb→le, ltb→lt, eqb→eq, eqb-refl}
+use lib.Dec.{T, ltb, eqb, eqb→eq, eqb-refl}
 use lib.ListN.{length, getD, List·getD-eq-default}
-use Rattle.rules.specs.Cells.{member, mapCells, All}
+use borrow.Author.Tests.{lt-ltb, le-ltb, ltb-true, ltb-false}
+use Rattle.rules.specs.Cells.{member, All}
 use Rattle.rules.specs.State.{counterCell}
 use Rattle.rules.specs.Hash.{hash, places}
-use Rattle.rules.specs.Filter.{counterAt, estimate, raised, named, counted}
-use Rattle.rules.proofs.Tests.{or-l, or-r, or-e, is-true, cond-yes, cond-no}
+use Rattle.rules.specs.Filter.{estimate, raised, named, counted}
+use Rattle.rules.proofs.Tests.{or-l, or-r, or-e, is-true, cond-yes}
 use Rattle.rules.proofs.Cells.{length-mapCells, getD-mapCells, all-mapFrom}
 
 -- ---- one counter
@@ -32,15 +33,26 @@ raised-adds n c = go (ltb c n) refl
   where
     go : (b : Bool) → ltb c n ≡ b → min n (c + 1) ≤ cond b (c + 1) c
     go true e = omega arith
-    go false e = omega (arith, nltb→le c n (subst (λ b. T (not b)) (sym e) tt))
+    go false e = omega (arith, ltb-false c n e)
 
--- a counter below a bound that the limit is below stays below it: no width is ever exceeded
+pub raised-below : (n c : ℕ) → c < n → c + 1 ≡ raised n c
+unfolding raised
+raised-below n c h = rw (lt-ltb c n h)
+
+pub raised-full : (n c : ℕ) → n ≤ c → c ≡ raised n c
+unfolding raised
+raised-full n c h = rw (le-ltb c n h)
+
+-- The width of a counter is any bound m that the limit is below: the sum is below it too, and a counter stays below it.
+pub sum-lt : (n c m : ℕ) → n < m → c < n → c + 1 < m
+sum-lt n c m h k = omega arith
+
 pub raised-lt : (n c m : ℕ) → n < m → c < m → raised n c < m
 unfolding raised
 raised-lt n c m h k = go (ltb c n) refl
   where
     go : (b : Bool) → ltb c n ≡ b → cond b (c + 1) c < m
-    go true e = omega (arith, ltb→lt c n (subst T (sym e) tt))
+    go true e = sum-lt n c m h (ltb-true c n e)
     go false e = k
 
 -- ---- all counters

@@ -1,42 +1,42 @@
 -- After set-up, a first request with bank and thread of the setting and a tick below 2^62 is opened.
-use mathlib.Core.Path.{_≡_, refl, sym, ap, _∙_, subst}
-use mathlib.Core.List.{List, [], _∷_}
-use mathlib.Core.Bool.{Bool, true, false, not, _&&_, _||_, cond}
-use Prim.Native.Nat.{ℕ, zero, suc, _+_, _-_, _*_, _/_, _%_, _^_, _≤_, _<_, min}
+use mathlib.Core.Path.{_≡_, refl, _∙_}
+use mathlib.Core.List.{List}
+use mathlib.Core.Bool.{Bool, true, false, not, _&&_}
+use Prim.Native.Nat.{ℕ, zero, suc, _-_, _*_, _/_, _%_, _^_, _≤_, _<_, min}
 use native.Mathlib.Omega.{arith}
 use native.Mathlib.Nat.{le-div-iff-mul-le}
-use lib.Dec.{T, leb, ltb, eqb, lt→ltb, T-not, not-T, leb→le}
+use lib.Dec.{T, ltb, lt→ltb}
 use lib.Arith.{lt→nleb}
 use borrow.Author.Tests.{lt-leb, le-ltb}
-use lib.ListN.{length, getD, replicate, getD-replicate}
+use lib.ListN.{getD, getD-replicate}
 use Rattle.rules.specs.declared.Setting.{Setting}
-use Rattle.rules.specs.declared.Answer.the-variants.{Opened}
 use Rattle.rules.specs.Cells.{clearCells}
-use Rattle.rules.specs.Answers.{Refusal, none, shortBuffer, refusalNumber, refuse, orElse}
-use Rattle.rules.specs.Setting.{indexScale, rowBound, settingRefusal}
+use Rattle.rules.specs.Answers.{none, shortBuffer, refuse}
+use Rattle.rules.specs.Setting.{indexScale, settingRefusal}
 use Rattle.rules.specs.State.{State, countersUsed, threadsUsed, counterCell, threadCell, tooShort, freshHead, fresh}
 use Rattle.rules.specs.Clock.{epoch, clears, activeFilter, turnedCounters, turnedThreads, movedHead, turned}
 use Rattle.rules.specs.Hash.{places}
 use Rattle.rules.specs.Filter.{Within, estimate, blacklisted}
 use Rattle.rules.specs.History.{memoryOk}
-use Rattle.rules.specs.Quota.{Policy, document01, quotaDown}
+use Rattle.rules.specs.Quota.{document01, quotaDown}
 use Rattle.rules.specs.Decision.{quotaRule, bankRule, rankRule, activeEstimate, rowRule, decide}
 use Rattle.rules.specs.Calls.{setupRefusal, callRefusal, unlessRefused, requested, step}
 use Rattle.rules.specs.Claims.{FirstOpened}
-use Rattle.rules.proofs.Tests.{or-l, is-true, is-false}
-use Rattle.rules.proofs.Cells.{clear-zero, clear-kept}
-use Rattle.rules.proofs.Accept.{Accepted, SetUp, set-up, orElse-none}
+use Rattle.rules.proofs.Tests.{or-l, is-true, holds, fails}
+use Rattle.rules.proofs.Cells.{thread-in}
+use Rattle.rules.proofs.Clearing.{clear-zero, clear-kept}
+use Rattle.rules.proofs.Accept.{SetUp, set-up, orElse-none, scale-pos}
 use Rattle.rules.proofs.Places.{places-within}
 use Rattle.rules.proofs.Memory.{memory-ok}
-use Rattle.rules.proofs.Sound.{Sound, fresh-sound, long-not-short}
+use Rattle.rules.proofs.Sound.{fresh-sound, long-not-short}
 
 -- a cell that is 0 stays 0 when cells are cleared
 still-zero : (p : ℕ → Bool) (j : ℕ) (cs : List ℕ) → getD cs j 0 ≡ 0 → getD (clearCells p cs) j 0 ≡ 0
 still-zero p j cs z = go (p j) refl
   where
     go : (q : Bool) → p j ≡ q → getD (clearCells p cs) j 0 ≡ 0
-    go true e = clear-zero p j cs (subst T (sym e) tt)
-    go false e = clear-kept p j cs (subst (λ x. T (not x)) (sym e) tt) ∙ z
+    go true e = clear-zero p j cs (holds (p j) e)
+    go false e = clear-kept p j cs (fails (p j) e) ∙ z
 
 module _ (s : Setting) (seeds : List ℕ) (before : State) (up : SetUp document01 s seeds before) (t b th r : ℕ) (bh : b < s .banks) (thh : th < s .threads) where
   abbrev at : ℕ → List ℕ
@@ -51,31 +51,17 @@ module _ (s : Setting) (seeds : List ℕ) (before : State) (up : SetUp document0
       still-zero (λ i. ltb i (countersUsed s) && clears (epoch s 0) (epoch s t) (i / 1024 % 2)) (counterCell b f h) (clearCells (λ i. ltb i (countersUsed s)) (before .counters))
       (clear-zero (λ i. ltb i (countersUsed s)) (counterCell b f h) (before .counters) (lt→ltb (counterCell b f h) (countersUsed s) (omega arith)))
 
-  -- a thread's cell is in the used part
-  cell-in : (k : ℕ) → k < 3 → threadCell s b th k < threadsUsed s
-  cell-in k k3 = go (s .banks) bh
-    where
-      go : (n : ℕ) → b < n → (b * s .threads + th) * 3 + k < n * s .threads * 3
-      go zero h = absurd (omega arith)
-      go (suc n) h = omega (arith, mono b n (s .threads) (omega arith))
-        where
-          mono : (x y z : ℕ) → x ≤ y → x * z ≤ y * z
-          mono x y zero h = omega arith
-          mono x y (suc z) h = omega (arith, mono x y z h)
-
   thread-zero : (k : ℕ) → k < 3 → getD (st .threads) (threadCell s b th k) 0 ≡ 0
   unfolding turned turnedThreads fresh freshHead
   thread-zero k k3 =
       still-zero (λ i. ltb i (threadsUsed s) && (ltb (i % 3) 2 && clears (epoch s 0) (epoch s t) (i % 3))) (threadCell s b th k) (clearCells (λ i. ltb i (threadsUsed s)) (before .threads))
-      (clear-zero (λ i. ltb i (threadsUsed s)) (threadCell s b th k) (before .threads) (lt→ltb (threadCell s b th k) (threadsUsed s) (cell-in k k3)))
-
-  scale-pos : 1 ≤ indexScale s
-  unfolding rowBound
-  scale-pos = omega (arith, up .setting .bound)
+      (clear-zero (λ i. ltb i (threadsUsed s)) (threadCell s b th k) (before .threads) (lt→ltb (threadCell s b th k) (threadsUsed s) (thread-in s b th k bh thh k3)))
 
   quota-full : 1 ≤ quotaDown s 0
   unfolding quotaDown
-  quota-full = le-div-iff-mul-le scale-pos .1 (omega (arith, full (s .q) (up .setting .q-low)))
+  quota-full =
+      let pos : 1 ≤ indexScale s = omega (arith, scale-pos (up .setting)) in
+      le-div-iff-mul-le pos .1 (omega (arith, full (s .q) (up .setting .ranges .q-low)))
     where
       full : (q : ℕ) → 1 ≤ q → indexScale s ≤ q * (indexScale s - min 0 (indexScale s))
       full zero h = absurd (omega arith)
@@ -87,7 +73,7 @@ module _ (s : Setting) (seeds : List ℕ) (before : State) (up : SetUp document0
 
   bank-passes : T (bankRule s st b)
   unfolding turned movedHead fresh freshHead
-  bank-passes = rw (getD-replicate {A = ℕ} 16 b 0 0 (omega (arith, up .setting .banks-high))) tt
+  bank-passes = rw (getD-replicate {A = ℕ} 16 b 0 0 (omega (arith, up .setting .ranges .banks-high))) tt
 
   rank-passes : T (rankRule s st)
   unfolding turned movedHead fresh freshHead
@@ -100,7 +86,7 @@ module _ (s : Setting) (seeds : List ℕ) (before : State) (up : SetUp document0
       (lt→nleb (s .n) (activeEstimate s at st b) (low (activeFilter s (st .head .last)) (omega arith) (places-within seeds (up .setting .seeds-ok) r)))
     where
       low : (f : ℕ) → f < 2 → Within (places seeds r) → estimate (st .counters) b f (places seeds r) < s .n
-      low f f2 w = omega (arith, counter-zero f (getD (places seeds r) 0 0) f2 (w .first), up .setting .n-low)
+      low f f2 w = omega (arith, counter-zero f (getD (places seeds r) 0 0) f2 (w .first), up .setting .ranges .n-low)
 
 -- ---- the call
 

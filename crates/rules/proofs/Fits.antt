@@ -1,29 +1,27 @@
 -- Stored cells stay within their widths: counters of any width w with N below 2^w, 64-bit ticks and head, 32-bit rows and thread counters.
-use mathlib.Core.Path.{_≡_, refl, sym, ap, _∙_, subst}
+use mathlib.Core.Path.{_≡_, refl}
 use mathlib.Core.List.{List, [], _∷_, _++_}
-use mathlib.Core.Bool.{Bool, true, false, not, _&&_, cond}
+use mathlib.Core.Bool.{Bool, true, false, _&&_, cond}
 use Prim.Native.Nat.{ℕ, zero, suc, _+_, _-_, _*_, _/_, _%_, _^_, _≤_, _<_, min}
 use native.Mathlib.Omega.{arith}
 use native.Mathlib.Nat.{add-zero, div-le-of-le-mul}
-use native.Mathlib.Decide.{decLt, ℕ-discrete}
 use lib.Dec.{T, ltb, ltb→lt, lit<}
-use lib.ListN.{length, getD, set, replicate, List·getD-eq-default}
-use lib.Seq.{getD-set-same, getD-set-other, set-out}
+use lib.ListN.{getD, set, replicate}
 use Rattle.rules.specs.declared.Setting.{Setting}
 use Rattle.rules.specs.declared.Head.{Head}
 use Rattle.rules.specs.declared.Answer.{Answer}
 use Rattle.rules.specs.declared.Answer.the-variants.{Opened, Wait, Quota}
-use Rattle.rules.specs.Cells.{mapFrom, clearCells, All}
+use Rattle.rules.specs.Cells.{clearCells, All}
 use Rattle.rules.specs.Setting.{historyLength, indexScale}
 use Rattle.rules.specs.State.{State, countersUsed, threadsUsed, threadCell, rowWord, cells, headWords, freshHead, fresh}
 use Rattle.rules.specs.Clock.{epoch, clears, activeFilter, turnedCounters, turnedThreads, movedHead, turned}
 use Rattle.rules.specs.Hash.{places}
 use Rattle.rules.specs.Filter.{raised}
-use Rattle.rules.specs.Quota.{document01, limits01, quotaDown, inFlightHere, indexCounter}
+use Rattle.rules.specs.Quota.{document01, quotaDown, inFlightHere, indexCounter}
 use Rattle.rules.specs.Decision.{quotaRule, decide, activatedHead, activatedThreads, activated}
-use Rattle.rules.specs.Calls.{Call, request, done, index, Outcome, callRefusal, doneRefusal, afterAnswer, requested, reported, indexShown, step, after}
+use Rattle.rules.specs.Calls.{Call, request, done, index, callRefusal, doneRefusal, afterAnswer, requested, reported, indexShown, step, after}
 use Rattle.rules.specs.Claims.{Fits, Stored, RowFits, StepFits, RunFits}
-use Rattle.rules.proofs.Cells.{all-mapFrom, getD-first}
+use Rattle.rules.proofs.Cells.{set-cell, all-mapFrom, getD-first}
 use Rattle.rules.proofs.Accept.{Taken, taken, done-taken}
 use Rattle.rules.proofs.Ring.{next-lt}
 use Rattle.rules.proofs.Filter.{raised-lt, counted-fits}
@@ -109,21 +107,13 @@ from-words m d w = (
   ),
 )
 
-set-below : (m : ℕ) (l : List ℕ) (i j v : ℕ) → v < m → getD l j 0 < m → getD (set l i v) j 0 < m
-set-below m l i j v hv h = go (ℕ-discrete j i) (decLt i (length l))
-  where
-    go : Dec (j ≡ i) → Dec (i < length l) → getD (set l i v) j 0 < m
-    go (yes e) (yes k) = rw (e, getD-set-same l i v 0 k) hv
-    go (yes e) (no k) = rw (set-out l i v (omega arith)) h
-    go (no e) d = rw (getD-set-other l i j v 0 e) h
-
 activated-words : (m h : ℕ) (d : Head) (b : ℕ) → Words m d → d .next < h → h ≤ m → d .last + 1 < m → Words m (activatedHead h d b)
 unfolding activatedHead
 activated-words m h d b w nh hm lm =
     record {
       last = w .last;
       next = omega (arith, next-lt h (d .next) nh);
-      bank = λ j k. set-below m (d .bank) b j (d .last + 1) lm (w .bank j k);
+      bank = λ j k. set-cell (λ x. x < m) (d .bank) b j (d .last + 1) lm (w .bank j k);
       rank = rank;
     }
   where
@@ -229,7 +219,7 @@ step-fits w s seeds st (request t b th r) nw f r16 =
       where
         go : (a : Answer) → decide document01 s at (turned s st t) b th r ≡ a
             → Stored w (afterAnswer a (turned s st t) (activated s at (turned s st t) b th r))
-        go Opened e = opened-fits w s at st t b th r nw (k .early) (memory s st (k .memory) .inRing) (k .setting .short) (omega (arith, k .bank-in, k .setting .banks-high)) r16 (k .setting .l-high) (k .setting .q-high) e g
+        go Opened e = opened-fits w s at st t b th r nw (k .early) (memory s st (k .memory) .inRing) (k .setting .short) (omega (arith, k .bank-in, k .setting .ranges .banks-high)) r16 (k .setting .ranges .l-high) (k .setting .ranges .q-high) e g
         go (Wait c u) e = g
         go Quota e = g
 step-fits w s seeds st (done t b th) nw f r16 =

@@ -1,14 +1,14 @@
 -- What ties the state to the activations so far, newest first.
-use mathlib.Core.Path.{_≡_, refl, sym, ap, _∙_, subst}
-use mathlib.Core.List.{List, [], _∷_, map}
-use Prim.Native.Nat.{ℕ, zero, suc, _+_, _*_, _/_, _%_, _≤_, _<_, min}
+use mathlib.Core.Path.{_≡_}
+use mathlib.Core.List.{List, map}
+use Prim.Native.Nat.{ℕ, _+_, _*_, _%_, _≤_, _<_, min}
 use lib.Dec.{T}
 use lib.ListN.{length, getD, drop}
 use Rattle.rules.specs.declared.Setting.{Setting}
 use Rattle.rules.specs.declared.Head.{Head}
 use Rattle.rules.specs.Cells.{member, All}
 use Rattle.rules.specs.Setting.{historyLength}
-use Rattle.rules.specs.State.{State, counterCell, threadsUsed, rowWord}
+use Rattle.rules.specs.State.{State, counterCell, rowWord}
 use Rattle.rules.specs.Clock.{epoch}
 use Rattle.rules.specs.Hash.{places}
 use Rattle.rules.specs.History.{back}

@@ -1,6 +1,7 @@
 pub mod Tests
 pub mod Cells
 pub mod Clearing
+pub mod Clock
 pub mod Places
 pub mod Accept
 pub mod Ring

@@ -1,32 +1,31 @@
 -- A state that passes refusals 6 and 7 passes them after every call, reachable or not.
-use mathlib.Core.Path.{_≡_, refl, sym, ap, _∙_, subst}
-use mathlib.Core.Logic.{_≢_, _⊎_, inl, inr}
-use mathlib.Core.List.{List, [], _∷_}
-use mathlib.Core.Bool.{Bool, true, false, not, _&&_, _||_, cond}
-use Prim.Native.Nat.{ℕ, zero, suc, _+_, _-_, _*_, _≤_, _<_}
+use mathlib.Core.Path.{_≡_, ap, _∙_}
+use mathlib.Core.Logic.{_⊎_, inl, inr}
+use mathlib.Core.List.{List, _∷_}
+use mathlib.Core.Bool.{Bool, true, false, _&&_}
+use Prim.Native.Nat.{ℕ, zero, suc, _+_, _-_, _≤_, _<_}
 use native.Mathlib.Omega.{arith}
-use native.Mathlib.Decide.{decLt, ℕ-discrete}
 use native.Mathlib.Nat.{le-refl}
 use lib.Dec.{T, leb, ltb, eqb, leb→le, le→leb, ltb→lt, lt→ltb, eqb→eq}
-use lib.ListN.{length, getD, set, replicate, length-set, getD-replicate}
-use lib.Seq.{getD-set-same, getD-set-other, set-out}
+use lib.ListN.{length, getD, set, length-set, getD-replicate}
+use lib.Seq.{getD-set-same, getD-set-other}
 use Rattle.rules.specs.declared.Setting.{Setting}
 use Rattle.rules.specs.declared.Head.{Head}
 use Rattle.rules.specs.Cells.{every, clearCells}
 use Rattle.rules.specs.Setting.{historyLength}
-use Rattle.rules.specs.State.{State, countersUsed, threadsUsed, threadCell, cells, freshHead, fresh}
-use Rattle.rules.specs.Clock.{turnedThreads, movedHead, turned}
+use Rattle.rules.specs.State.{State, countersUsed, threadsUsed, cells, freshHead, fresh}
+use Rattle.rules.specs.Clock.{movedHead, turned}
 use Rattle.rules.specs.History.{nextPlace, back, notAfter, neverRises, memoryOk}
-use Rattle.rules.specs.Filter.{raised}
 use Rattle.rules.specs.Quota.{Policy}
 use Rattle.rules.specs.Decision.{activatedHead, activatedThreads, activated}
 use Rattle.rules.specs.Calls.{reported}
-use Rattle.rules.proofs.Tests.{and-i, and-l, and-r, or-l, or-r, or-e, every-at, every-all}
-use Rattle.rules.proofs.Cells.{length-mapCells, clear-zero, getD-first}
+use Rattle.rules.proofs.Tests.{and-i, and-l, and-r, or-r, or-e, every-at, every-all}
+use Rattle.rules.proofs.Cells.{set-cell, getD-first}
+use Rattle.rules.proofs.Clearing.{length-clear, clear-zero}
 use Rattle.rules.proofs.Accept.{Long, Taken}
 use Rattle.rules.proofs.Ring.{next-lt, back-lt, back-first, back-next, back-other, falls-one}
 use Rattle.rules.proofs.Filter.{length-counted}
-use Rattle.rules.proofs.Turn.{length-turned}
+use Rattle.rules.proofs.Clock.{length-turned, length-turnedThreads}
 
 -- ---- the test of the memory, as facts
 
@@ -119,10 +118,10 @@ pub fresh-long : (s : Setting) (st : State) → Long s st → Long s (fresh s st
 unfolding fresh
 fresh-long s st l =
     record {
-      counters = rw (length-mapCells (λ i c. cond (ltb i (countersUsed s)) 0 c) (st .counters)) (l .counters);
-      ticks = rw (length-mapCells (λ i c. cond (ltb i (historyLength s)) 0 c) (st .ticks)) (l .ticks);
-      rows = rw (length-mapCells (λ i c. cond (ltb i (historyLength s)) 0 c) (st .rows)) (l .rows);
-      threads = rw (length-mapCells (λ i c. cond (ltb i (threadsUsed s)) 0 c) (st .threads)) (l .threads);
+      counters = rw (length-clear (λ i. ltb i (countersUsed s)) (st .counters)) (l .counters);
+      ticks = rw (length-clear (λ i. ltb i (historyLength s)) (st .ticks)) (l .ticks);
+      rows = rw (length-clear (λ i. ltb i (historyLength s)) (st .rows)) (l .rows);
+      threads = rw (length-clear (λ i. ltb i (threadsUsed s)) (st .threads)) (l .threads);
     }
 
 -- ---- the clock
@@ -143,10 +142,6 @@ pub taken-memory : {p : Policy} {s : Setting} {seeds : List ℕ} {st : State} {t
     → Taken p s seeds st t bank thread → Memory s (turned s st t .head) (turned s st t .ticks)
 taken-memory {s = s} {st = st} {t = t} ok = turned-memory s st t (ok .later) (memory s st (ok .memory))
 
-pub length-turnedThreads : (used e e′ : ℕ) (ts : List ℕ) → length (turnedThreads used e e′ ts) ≡ length ts
-unfolding turnedThreads
-length-turnedThreads used e e′ ts = length-mapCells _ ts
-
 pub turned-long : (s : Setting) (st : State) (t : ℕ) → Long s st → Long s (turned s st t)
 unfolding turned
 turned-long s st t l =
@@ -158,15 +153,6 @@ turned-long s st t l =
     }
 
 -- ---- an activation
-
--- a cell that is at most v, or was set to v
-set-most : (l : List ℕ) (i j v : ℕ) → getD l j 0 ≤ v → getD (set l i v) j 0 ≤ v
-set-most l i j v h = go (ℕ-discrete j i) (decLt i (length l))
-  where
-    go : Dec (j ≡ i) → Dec (i < length l) → getD (set l i v) j 0 ≤ v
-    go (yes e) (yes k) = rw (e, getD-set-same l i v 0 k) (le-refl v)
-    go (yes e) (no k) = rw (set-out l i v (omega arith)) h
-    go (no e) d = rw (getD-set-other l i j v 0 e) h
 
 -- the ring with a newest stored tick that is no less than the others still never rises
 pub push-steady : (h p v : ℕ) (ticks : List ℕ) → p < h → h ≤ length ticks → ((q : ℕ) → q < h → getD ticks q 0 ≤ v)
@@ -196,9 +182,9 @@ unfolding activated activatedHead
 activated-memory s at st b th r l m =
     record {
       inRing = next-lt (historyLength s) (st .head .next) (m .inRing);
-      bank = λ b′ k. set-most (st .head .bank) b b′ (st .head .last + 1) (m .bank b′ k);
+      bank = λ b′ k. set-cell (λ x. x ≤ st .head .last + 1) (st .head .bank) b b′ (st .head .last + 1) (le-refl (st .head .last + 1)) (m .bank b′ k);
       rank = rank;
-      history = λ p k. set-most (st .ticks) (st .head .next) p (st .head .last + 1) (m .history p k);
+      history = λ p k. set-cell (λ x. x ≤ st .head .last + 1) (st .ticks) (st .head .next) p (st .head .last + 1) (le-refl (st .head .last + 1)) (m .history p k);
       steady = push-steady (historyLength s) (st .head .next) (st .head .last + 1) (st .ticks) (m .inRing) (l .ticks) (m .history) (m .steady);
     }
   where

@@ -11,7 +11,7 @@ use native.Mathlib.Decide.{decLe}
 use lib.Dec.{T, leb, ltb, leb→le, le→leb, ltb→lt, lt→ltb, nleb→lt}
 use Rattle.rules.specs.Cells.{more, count}
 use Rattle.rules.specs.Calls.{inSpan}
-use Rattle.rules.proofs.Tests.{and-i, and-l, and-r}
+use Rattle.rules.proofs.Tests.{and-i, and-l, and-r, holds, fails}
 use Rattle.rules.proofs.Counting.{count-le, count-or}
 
 -- every tick of the list is at least g before t
@@ -110,10 +110,10 @@ module _ (d n a b m s : ℕ) (p : ℕ → Bool) where
       go false e f bef (inl z) = inl (skip e f ∙ z)
       go false e f bef (inr r) = inr (r .0, r .1, omega (arith, skip e f, r .2), λ w v k. r .3 w v (k .1))
       go true e f bef (inl z) =
-          let ph : T (p t) = subst T (sym e) tt in
+          let ph : T (p t) = holds (p t) e in
           inr (t, ph, omega (arith, take e f, small f, from t ph), λ w v k. k .0)
       go true e f bef (inr r) =
-          let ph : T (p t) = subst T (sym e) tt in
+          let ph : T (p t) = holds (p t) e in
           inr (t, ph, omega (arith, take e f, r .2, r .3 (cond f a b) t bef), λ w v k. k .0)
 
 -- ---- free activations in successive epochs
@@ -141,7 +141,7 @@ two-epochs d n k (t ∷ us) = go (inEpochs d k 2 t) refl (isFree d n t us) refl 
     go q e false e′ h = h
     go false e true e′ h = rw e h
     go true e true e′ h =
-        let w : T (inEpochs d k 2 t) = subst T (sym e) tt in
+        let w : T (inEpochs d k 2 t) = holds (inEpochs d k 2 t) e in
         let few : near d (t / d) us < n = ltb→lt (near d (t / d) us) n (subst T (sym e′) tt) in
         let seen : count (inEpochs d k 2) us ≤ near d (t / d) us =
         count-le (inEpochs d k 2) (λ u. leb (t / d) (u / d + 1))
@@ -166,8 +166,8 @@ even-epochs d n k (suc c) l =
     halves u x = go (leb (k + 2) (u / d)) refl
       where
         go : (b : Bool) → leb (k + 2) (u / d) ≡ b → T (inEpochs d k 2 u) ⊎ T (inEpochs d (k + 2) (2 * c) u)
-        go true e = inr (epochs-i d (k + 2) (2 * c) u (leb→le (k + 2) (u / d) (subst T (sym e) tt)) (omega (arith, epochs-hi d k (2 * suc c) u x)))
-        go false e = inl (epochs-i d k 2 u (epochs-lo d k (2 * suc c) u x) (nleb→lt (k + 2) (u / d) (subst (λ b. T (not b)) (sym e) tt)))
+        go true e = inr (epochs-i d (k + 2) (2 * c) u (leb→le (k + 2) (u / d) (holds (leb (k + 2) (u / d)) e)) (omega (arith, epochs-hi d k (2 * suc c) u x)))
+        go false e = inl (epochs-i d k 2 u (epochs-lo d k (2 * suc c) u x) (nleb→lt (k + 2) (u / d) (fails (leb (k + 2) (u / d)) e)))
 
 -- ---- the bound
 

@@ -1,8 +1,8 @@
 -- The history ring: its places, the order from the newest back, and what the search tells.
-use mathlib.Core.Path.{_≡_, refl, sym, ap, _∙_, subst}
+use mathlib.Core.Path.{_≡_, refl, sym, _∙_, subst}
 use mathlib.Core.Logic.{_≢_, _⊎_, inl, inr}
 use mathlib.Core.List.{List}
-use mathlib.Core.Bool.{Bool, true, false, not, _&&_, _||_, cond}
+use mathlib.Core.Bool.{Bool, true, false, not, _&&_}
 use Prim.Native.Nat.{ℕ, zero, suc, _+_, _-_, _≤_, _<_}
 use native.Mathlib.Omega.{arith}
 use native.Mathlib.Nat.{le-refl, le-trans}
@@ -10,9 +10,8 @@ use native.Mathlib.Decide.{decLt, ℕ-discrete}
 use lib.Dec.{T, leb, ltb, eqb, leb→le, le→leb, ltb→lt, lt→ltb, eqb→eq, eqb-refl, not-T, T-not}
 use lib.Arith.{le→nltb}
 use lib.ListN.{getD}
-use Rattle.rules.specs.Cells.{every}
 use Rattle.rules.specs.History.{nextPlace, back, neverRises, matches, rowFree, findFrom, find}
-use Rattle.rules.proofs.Tests.{and-i, and-l, and-r, cond-yes, cond-no, every-at, every-all}
+use Rattle.rules.proofs.Tests.{and-i, and-l, and-r, cond-yes, cond-no, every-at, every-all, holds, fails}
 
 -- ---- places
 
@@ -157,12 +156,12 @@ module _ (h td p : ℕ) (ticks rows : List ℕ) (word t : ℕ) (ph : p < h) wher
       here e j lo f = pick (ℕ-discrete i j)
         where
           pick : Dec (i ≡ j) → T (not (hit j))
-          pick (yes d) = subst (λ x. T (not (hit x))) d (subst (λ x. T (not x)) (sym e) tt)
+          pick (yes d) = subst (λ x. T (not (hit x))) d (fails (hit i) e)
           pick (no d) = f (omega arith)
 
       go : (q : Bool) → hit i ≡ q → Found (suc i) n (findFrom h td p ticks rows word t (suc i) n)
           → Found i (suc n) (elim q [ true ↦ back h p i | false ↦ findFrom h td p ticks rows word t (suc i) n ])
-      go true e ih = inr (i, refl, le-refl i, omega arith, subst T (sym e) tt, λ j lo hi. absurd (omega arith))
+      go true e ih = inr (i, refl, le-refl i, omega arith, holds (hit i) e, λ j lo hi. absurd (omega arith))
       go false e (inl (f, none)) = inl (f, λ j lo hi. here e j lo (λ l. none j l (omega arith)))
       go false e (inr k) = inr (k .0, k .1, omega (arith, k .2), omega (arith, k .3), k .4, λ j lo hi. here e j lo (λ l. k .5 j l hi))
 

@@ -1,9 +1,9 @@
 -- No call of a list after set-up is refused with 6 or 7.
-use mathlib.Core.Path.{_≡_, refl, sym, ap, _∙_, subst}
+use mathlib.Core.Path.{_≡_, ap}
 use mathlib.Core.Logic.{_≢_}
 use mathlib.Core.List.{List, [], _∷_}
-use mathlib.Core.Bool.{Bool, true, false, not, _||_}
-use Prim.Native.Nat.{ℕ, _+_, _^_, _≤_, _<_}
+use mathlib.Core.Bool.{Bool, true, false, _||_}
+use Prim.Native.Nat.{ℕ, _^_, _≤_}
 use native.Mathlib.Omega.{arith}
 use lib.Dec.{leb, ltb, eqb}
 use borrow.Author.Tests.{le-ltb}
@@ -12,7 +12,7 @@ use Rattle.rules.specs.declared.Setting.{Setting}
 use Rattle.rules.specs.declared.Answer.{Answer}
 use Rattle.rules.specs.declared.Answer.the-variants.{Opened, Wait, Quota}
 use Rattle.rules.specs.Cells.{All}
-use Rattle.rules.specs.Answers.{Refusal, none, outOfRange, shortWindow, badDelay, longHistory, aboveLimit, shortBuffer, badMemory, outsideSetting, badTick, noneInFlight, refusalNumber, refuse, orElse}
+use Rattle.rules.specs.Answers.{none, shortBuffer, badMemory, outsideSetting, badTick, noneInFlight, refusalNumber, refuse}
 use Rattle.rules.specs.Setting.{historyLength, settingRefusal}
 use Rattle.rules.specs.State.{State, countersUsed, threadsUsed, threadCell, tooShort, fresh}
 use Rattle.rules.specs.Clock.{turned}
@@ -20,11 +20,11 @@ use Rattle.rules.specs.Hash.{places}
 use Rattle.rules.specs.History.{memoryOk}
 use Rattle.rules.specs.Quota.{Policy}
 use Rattle.rules.specs.Decision.{decide, activated}
-use Rattle.rules.specs.Calls.{Call, request, done, index, Reply, refused, answered, finished, shown, returnCode, Outcome, setupRefusal, callRefusal, doneRefusal, afterAnswer, requested, reported, indexShown, step, replies, after}
+use Rattle.rules.specs.Calls.{Call, request, done, index, Reply, refused, returnCode, setupRefusal, callRefusal, doneRefusal, afterAnswer, requested, reported, indexShown, step, replies}
 use Rattle.rules.specs.Claims.{NeverMemory}
 use Rattle.rules.proofs.Tests.{is-true}
-use Rattle.rules.proofs.Accept.{Accepted, Long, SetUp, set-up, history-pos, orElse-none, taken, done-taken}
-use Rattle.rules.proofs.Memory.{Memory, memory, memory-ok, fresh-memory, fresh-long, turned-memory, turned-long, activated-memory, activated-long, reported-long}
+use Rattle.rules.proofs.Accept.{Long, SetUp, set-up, history-pos, first-refusal, orElse-none, taken, done-taken}
+use Rattle.rules.proofs.Memory.{Memory, memory-ok, fresh-memory, fresh-long, turned-memory, turned-long, activated-memory, activated-long, reported-long}
 use Rattle.rules.proofs.Step.{by-refusal}
 
 -- what refusals 6 and 7 test
@@ -87,25 +87,14 @@ call-sound p s seeds st t b th e h =
 done-sound : (p : Policy) (s : Setting) (seeds : List ℕ) (st : State) (t b th : ℕ) → settingRefusal (p .limits) s seeds ≡ none → Sound s st
     → (refusalNumber (doneRefusal p s seeds st t b th) ≢ 6) × (refusalNumber (doneRefusal p s seeds st t b th) ≢ 7)
 unfolding doneRefusal
-done-sound p s seeds st t b th e h = go (callRefusal p s seeds st t b th) (eqb (getD (st .threads) (threadCell s b th 2) 0) 0) (call-sound p s seeds st t b th e h)
+done-sound p s seeds st t b th e h =
+    let free = eqb (getD (st .threads) (threadCell s b th 2) 0) 0 in
+    first-refusal (λ r. (refusalNumber r ≢ 6) × (refusalNumber r ≢ 7)) (callRefusal p s seeds st t b th) (refuse free noneInFlight none)
+    (λ z. late free) (λ k. call-sound p s seeds st t b th e h)
   where
     late : (x : Bool) → (refusalNumber (refuse x noneInFlight none) ≢ 6) × (refusalNumber (refuse x noneInFlight none) ≢ 7)
     late true = (omega arith, omega arith)
     late false = (omega arith, omega arith)
-
-    go : (r : Refusal) (x : Bool) → (refusalNumber r ≢ 6) × (refusalNumber r ≢ 7)
-        → (refusalNumber (orElse r (refuse x noneInFlight none)) ≢ 6) × (refusalNumber (orElse r (refuse x noneInFlight none)) ≢ 7)
-    go none x k = late x
-    go outOfRange x k = k
-    go shortWindow x k = k
-    go badDelay x k = k
-    go longHistory x k = k
-    go aboveLimit x k = k
-    go shortBuffer x k = k
-    go badMemory x k = k
-    go outsideSetting x k = k
-    go badTick x k = k
-    go noneInFlight x k = k
 
 -- a reply's return code tells
 abbrev Codes : Reply → Type 0
@@ -129,7 +118,7 @@ codes-never r k = ((λ q. k .0 (ap returnCode q)), (λ q. k .1 (ap returnCode q)
 
 pub fresh-sound : (p : Policy) (s : Setting) (seeds : List ℕ) (st : State) → SetUp p s seeds st → Sound s (fresh s st)
 fresh-sound p s seeds st up =
-    record { long = fresh-long s st (up .long); ok = fresh-memory s st (history-pos (up .setting)) (up .setting .banks-high) }
+    record { long = fresh-long s st (up .long); ok = fresh-memory s st (history-pos (up .setting)) (up .setting .ranges .banks-high) }
 
 pub never-memory : (p : Policy) → NeverMemory p
 unfolding setupRefusal

@@ -1,32 +1,30 @@
 -- Set-up gives the invariant and every call keeps it, refused ones included; so the activations of any list of calls are lawful.
-use mathlib.Core.Path.{_≡_, refl, sym, ap, _∙_, subst}
-use mathlib.Core.Logic.{_⊎_, inl, inr}
-use mathlib.Core.List.{List, [], _∷_, _++_, map}
-use mathlib.Core.Bool.{Bool, true, false, not, _&&_, _||_, cond}
-use Prim.Native.Nat.{ℕ, zero, suc, _+_, _*_, _≤_, _<_, min}
+use mathlib.Core.Path.{_≡_, refl, ap}
+use mathlib.Core.List.{List, [], _∷_, _++_}
+use mathlib.Core.Bool.{Bool, true, false, cond}
+use Prim.Native.Nat.{ℕ, zero, suc, _+_, _≤_, _<_}
 use native.Mathlib.Omega.{arith}
 use lib.Dec.{T, ltb, eqb, lt→ltb, eqb→eq}
-use lib.ListN.{length, getD, drop, replicate, length-replicate, getD-replicate}
+use lib.ListN.{getD, drop, replicate, getD-replicate}
 use Rattle.rules.specs.declared.Setting.{Setting}
 use Rattle.rules.specs.declared.Answer.{Answer}
-use Rattle.rules.specs.declared.Cause.the-variants.{Bank, Rank, Row}
 use Rattle.rules.specs.declared.Answer.the-variants.{Opened, Wait, Quota}
 use Rattle.rules.specs.Cells.{count, clearCells, All}
 use Rattle.rules.specs.Answers.{Refusal, none, refusalNumber, answerNumber}
 use Rattle.rules.specs.Setting.{historyLength}
-use Rattle.rules.specs.State.{State, countersUsed, threadCell, freshHead, fresh}
+use Rattle.rules.specs.State.{State, countersUsed, freshHead, fresh}
 use Rattle.rules.specs.Clock.{turned, movedHead}
 use Rattle.rules.specs.Hash.{places}
 use Rattle.rules.specs.History.{back}
 use Rattle.rules.specs.Quota.{Policy}
 use Rattle.rules.specs.Decision.{quotaRule, bankRule, rankRule, rowRule, waitTick, firstFailing, decide, activated}
-use Rattle.rules.specs.Calls.{Call, request, done, index, Reply, refused, answered, finished, shown, Outcome, callRefusal, doneRefusal, unlessRefused, afterAnswer, requested, reported, indexShown, step, replies, after, Activation, activationOf, activations}
-use Rattle.rules.proofs.Cells.{length-mapCells, clear-zero}
+use Rattle.rules.specs.Calls.{Call, request, done, index, refused, answered, Outcome, callRefusal, doneRefusal, unlessRefused, afterAnswer, requested, reported, indexShown, step, replies, after, Activation, activationOf, activations}
+use Rattle.rules.proofs.Tests.{holds}
+use Rattle.rules.proofs.Clearing.{length-clear, clear-zero}
 use Rattle.rules.proofs.Counting.{count-append}
 use Rattle.rules.proofs.Accept.{Accepted, history-pos, SetUp, taken, done-taken, number-none}
 use Rattle.rules.proofs.Ring.{back-lt}
-use Rattle.rules.proofs.Trace.{Lawful}
-use Rattle.rules.proofs.Invariant.{Inv, Holds, stored, wordOf}
+use Rattle.rules.proofs.Invariant.{Holds, stored}
 use Rattle.rules.proofs.Turn.{turned-holds}
 use Rattle.rules.proofs.Activate.{activated-holds}
 
@@ -40,13 +38,13 @@ fresh-holds p s seeds st up =
       ranked = tt;
       latest = tt;
       inRing = pos;
-      banksLong = up .setting .banks-high;
-      countersLong = rw (length-mapCells (λ i c. cond (ltb i (countersUsed s)) 0 c) (st .counters)) (up .long .counters);
-      ticksLong = rw (length-mapCells (λ i c. cond (ltb i (historyLength s)) 0 c) (st .ticks)) (up .long .ticks);
-      rowsLong = rw (length-mapCells (λ i c. cond (ltb i (historyLength s)) 0 c) (st .rows)) (up .long .rows);
+      banksLong = up .setting .ranges .banks-high;
+      countersLong = rw (length-clear (λ i. ltb i (countersUsed s)) (st .counters)) (up .long .counters);
+      ticksLong = rw (length-clear (λ i. ltb i (historyLength s)) (st .ticks)) (up .long .ticks);
+      rowsLong = rw (length-clear (λ i. ltb i (historyLength s)) (st .rows)) (up .long .rows);
       bankLast = λ b h. tt;
       rankLast = rank;
-      bankPast = λ b h. rw (getD-replicate {A = ℕ} 16 b 0 0 (omega (arith, up .setting .banks-high))) (omega arith);
+      bankPast = λ b h. rw (getD-replicate {A = ℕ} 16 b 0 0 (omega (arith, up .setting .ranges .banks-high))) (omega arith);
       rankPast = λ j h. rw (getD-replicate {A = ℕ} 4 j 0 0 h) (omega arith);
       ring = λ j h. (empty (st .ticks) j h, empty (st .rows) j h);
       active = λ b r h bh q. omega arith;
@@ -88,7 +86,7 @@ unfolding unlessRefused
 by-refusal P r st o f g = go (eqb (refusalNumber r) 0) refl
   where
     go : (q : Bool) → eqb (refusalNumber r) 0 ≡ q → P (cond q o (record { reply = refused r; state = st }))
-    go true e = f (number-none r (eqb→eq (refusalNumber r) 0 (subst T (sym e) tt)))
+    go true e = f (number-none r (eqb→eq (refusalNumber r) 0 (holds (eqb (refusalNumber r) 0) e)))
     go false e = g
 
 module _ (p : Policy) (s : Setting) (seeds : List ℕ) (ok : Accepted (p .limits) s seeds) where

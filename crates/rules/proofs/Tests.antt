@@ -2,10 +2,11 @@
 use mathlib.Core.Path.{_≡_, refl, sym, subst}
 use mathlib.Core.Logic.{_⊎_, inl, inr}
 use mathlib.Core.Bool.{Bool, true, false, not, _&&_, _||_, cond}
-use Prim.Native.Nat.{ℕ, zero, suc, _+_, _≤_, _<_}
+use Prim.Native.Nat.{ℕ, zero, suc, _<_}
 use native.Mathlib.Omega.{arith}
 use native.Mathlib.Decide.{ℕ-discrete}
-use lib.Dec.{T, not-T, T-not}
+use lib.Dec.{T, ltb, eqb, ltb→lt, lt→ltb, eqb→eq}
+use borrow.Author.Tests.{eq-eqb}
 use Rattle.rules.specs.Cells.{every}
 
 pub and-i : (a b : Bool) → T a → T b → T (a && b)
@@ -19,6 +20,14 @@ and-l false b x = x
 pub and-r : (a b : Bool) → T (a && b) → T b
 and-r true b x = x
 and-r false b x = absurd x
+
+pub and-true : (a : Bool) → (a && true) ≡ a
+and-true true = refl
+and-true false = refl
+
+pub and-assoc : (a b c : Bool) → (a && b && c) ≡ (a && (b && c))
+and-assoc true b c = refl
+and-assoc false b c = refl
 
 pub or-l : (a b : Bool) → T a → T (a || b)
 or-l true b x = tt
@@ -69,6 +78,13 @@ same-test true true f g = refl
 same-test true false f g = absurd (f tt)
 same-test false true f g = absurd (g tt)
 same-test false false f g = refl
+
+-- a number is below another and one equals another: the test as facts, and the facts as a test
+pub lt-eq-facts : (i n x k : ℕ) → T (ltb i n && eqb x k) → (i < n) × (x ≡ k)
+lt-eq-facts i n x k t = (ltb→lt i n (and-l (ltb i n) (eqb x k) t), eqb→eq x k (and-r (ltb i n) (eqb x k) t))
+
+pub lt-eq-test : (i n x k : ℕ) → i < n → x ≡ k → T (ltb i n && eqb x k)
+lt-eq-test i n x k h e = and-i (ltb i n) (eqb x k) (lt→ltb i n h) (holds (eqb x k) (eq-eqb x k e))
 
 -- a test of every number below n
 pub every-at : (n : ℕ) (p : ℕ → Bool) → T (every n p) → (i : ℕ) → i < n → T (p i)

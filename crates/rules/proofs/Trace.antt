@@ -1,12 +1,12 @@
 -- The activations of a run, newest first: what the rules promise of them, and how often one row is among those of a span.
-use mathlib.Core.Path.{_≡_, refl, sym, ap, _∙_, subst}
+use mathlib.Core.Path.{_≡_, refl, sym, ap, _∙_}
 use mathlib.Core.Logic.{_⊎_, inl, inr}
 use mathlib.Core.List.{List, [], _∷_}
-use mathlib.Core.Bool.{Bool, true, false, not, _&&_, cond}
-use Prim.Native.Nat.{ℕ, zero, suc, _+_, _-_, _*_, _/_, _≤_, _<_}
+use mathlib.Core.Bool.{Bool, true, false, _&&_, cond}
+use Prim.Native.Nat.{ℕ, _+_, _-_, _*_, _/_, _≤_, _<_}
 use native.Mathlib.Omega.{arith}
 use native.Mathlib.Decide.{decLe}
-use lib.Dec.{T, leb, ltb, eqb, eqb→eq, le→leb}
+use lib.Dec.{T, leb, eqb, eqb→eq, le→leb}
 use lib.Arith.{lt→nleb}
 use Rattle.rules.specs.declared.Setting.{Setting}
 use Rattle.rules.specs.Cells.{ceilDiv, more, count, All}
@@ -14,7 +14,7 @@ use Rattle.rules.specs.Setting.{epochLength}
 use Rattle.rules.specs.Clock.{epoch}
 use Rattle.rules.specs.Calls.{Activation, ofRow, inSpan, timesActivated}
 use Rattle.rules.specs.Claims.{freeMost, spanBound}
-use Rattle.rules.proofs.Tests.{and-l, and-r, cond-yes, cond-no}
+use Rattle.rules.proofs.Tests.{and-l, and-r, cond-yes, cond-no, holds}
 use Rattle.rules.proofs.Counting.{all-map}
 use Rattle.rules.proofs.Accept.{ceil-cover}
 use Rattle.rules.proofs.OneRow.{Before, near, Row, row-span, row-span-short}
@@ -63,7 +63,7 @@ all-before b r g t [] a = tt
 all-before b r g t (o ∷ os) a = go (ofRow b r o) refl (all-before b r g t os (a .1))
   where
     go : (q : Bool) → ofRow b r o ≡ q → Before g t (ticksOf b r os) → Before g t (keepTick q o (ticksOf b r os))
-    go true e h = (a .0 (subst T (sym e) tt), h)
+    go true e h = (a .0 (holds (ofRow b r o) e), h)
     go false e h = h
 
 lawful-row : (s : Setting) (b r : ℕ) (l : List Activation) → Lawful s l → Row (epochLength s) (s .n) (s .trc) (s .td) (ticksOf b r l)
@@ -76,7 +76,7 @@ lawful-row s b r (o ∷ os) h = go (ofRow b r o) refl (lawful-row s b r os (h .0
     go true e k = (k, all-before b r (s .trc) (o .tick) os (all-map (λ x a m. a (row-bank b r x m ∙ sym bk)) os (h .2)), either (h .3))
       where
         mine : T (ofRow b r o)
-        mine = subst T (sym e) tt
+        mine = holds (ofRow b r o) e
 
         bk : o .bank ≡ b
         bk = row-bank b r o mine

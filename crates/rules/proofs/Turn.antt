@@ -1,60 +1,28 @@
 -- A move of the clock keeps the invariant: what is cleared is of no epoch that still counts.
-use mathlib.Core.Path.{_≡_, refl, sym, ap, _∙_, subst}
+use mathlib.Core.Path.{_≡_, refl, _∙_}
 use mathlib.Core.List.{List, [], _∷_}
-use mathlib.Core.Bool.{Bool, true, false, not, _&&_, _||_}
-use Prim.Native.Nat.{ℕ, zero, suc, _+_, _*_, _/_, _%_, _≤_, _<_, min}
+use mathlib.Core.Bool.{not, _&&_}
+use Prim.Native.Nat.{ℕ, _+_, _/_, _%_, _≤_, _<_}
 use native.Mathlib.Omega.{arith}
 use native.Mathlib.Decide.{ℕ-discrete}
 use native.Mathlib.Nat.{le-trans, le-div-iff-mul-le, div-mul-le-self}
-use lib.Dec.{T, leb, ltb, eqb, leb→le, T-not, not-T}
-use borrow.Author.Tests.{le-ltb, eq-eqb, ne-eqb}
-use lib.ListN.{length, getD}
+use lib.Dec.{T, leb, leb→le, not-T}
 use Rattle.rules.specs.declared.Setting.{Setting}
 use Rattle.rules.specs.Cells.{All}
 use Rattle.rules.specs.Setting.{Limits, epochLength}
-use Rattle.rules.specs.State.{State, countersUsed, counterCell}
+use Rattle.rules.specs.State.{State, countersUsed}
 use Rattle.rules.specs.Clock.{epoch, clears, turnedCounters, movedHead, turned}
 use Rattle.rules.specs.Calls.{Activation, ofRow}
 use Rattle.rules.proofs.Tests.{and-r}
-use Rattle.rules.proofs.Cells.{length-mapCells, clear-kept}
 use Rattle.rules.proofs.Counting.{more-no, all-map}
 use Rattle.rules.proofs.Places.{place-lt}
 use Rattle.rules.proofs.Accept.{Accepted, epoch-long}
+use Rattle.rules.proofs.Clock.{same-clears, next-clears, length-turned, turned-kept}
 use Rattle.rules.proofs.Trace.{since}
 use Rattle.rules.proofs.Invariant.{Counted, Holds}
 
 pub div-mono : (d a b : ℕ) → 1 ≤ d → a ≤ b → a / d ≤ b / d
 div-mono d a b d1 h = le-div-iff-mul-le d1 .1 (omega (arith, div-mul-le-self a d))
-
--- within an epoch nothing is cleared, and at the next one not the filter that is then active
-pub same-clears : (e f : ℕ) → T (not (clears e e f))
-same-clears e f =
-    let late : ltb (e + 1) e ≡ false = le-ltb (e + 1) e (omega arith) in
-    let next : eqb e (e + 1) ≡ false = ne-eqb e (e + 1) (omega arith) in
-    rw (late, next) tt
-
-pub next-clears : (e : ℕ) → T (not (clears e (e + 1) ((e + 1) % 2)))
-next-clears e =
-    let late : ltb (e + 1) (e + 1) ≡ false = le-ltb (e + 1) (e + 1) (omega arith) in
-    let next : eqb (e + 1) (e + 1) ≡ true = eq-eqb (e + 1) (e + 1) refl in
-    let other : eqb ((e + 1) % 2) (e % 2) ≡ false = ne-eqb ((e + 1) % 2) (e % 2) (omega arith) in
-    rw (late, next, other) tt
-
-pub length-turned : (used e e′ : ℕ) (cs : List ℕ) → length (turnedCounters used e e′ cs) ≡ length cs
-unfolding turnedCounters
-length-turned used e e′ cs = length-mapCells _ cs
-
--- a counter of a filter that is not cleared
-pub turned-kept : (used e e′ b f h : ℕ) (cs : List ℕ) → f < 2 → h < 1024 → T (not (clears e e′ f))
-    → getD (turnedCounters used e e′ cs) (counterCell b f h) 0 ≡ getD cs (counterCell b f h) 0
-unfolding turnedCounters
-turned-kept used e e′ b f h cs f2 h2 nc =
-    clear-kept (λ i. ltb i used && clears e e′ (i / 1024 % 2)) (counterCell b f h) cs
-    (not-T (ltb (counterCell b f h) used && clears e e′ (counterCell b f h / 1024 % 2))
-    (λ q. T-not (clears e e′ f) nc (subst (λ x. T (clears e e′ x)) filter (and-r (ltb (counterCell b f h) used) (clears e e′ (counterCell b f h / 1024 % 2)) q))))
-  where
-    filter : counterCell b f h / 1024 % 2 ≡ f
-    filter = omega arith
 
 module _ (m : Limits) (s : Setting) (seeds : List ℕ) (ok : Accepted m s seeds) where
   -- activations up to tick l are of no epoch that a window from epoch l/E + 1 on counts

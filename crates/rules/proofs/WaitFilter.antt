@@ -1,35 +1,22 @@
 -- The estimate in test at a later tick, if no call comes between: the active one up to the end of the epoch, the other one for an epoch more.
-use mathlib.Core.Path.{_≡_, ap, _∙_}
+use mathlib.Core.Path.{_≡_, sym, ap, _∙_}
 use mathlib.Core.List.{List}
-use mathlib.Core.Bool.{Bool, _&&_, cond}
 use Prim.Native.Nat.{ℕ, _+_, _*_, _/_, _%_, _≤_, _<_}
 use native.Mathlib.Omega.{arith}
-use native.Mathlib.Nat.{le-div-iff-mul-le, div-lt-iff-lt-mul}
-use lib.Dec.{ltb, not-T, T-not}
+use native.Mathlib.Nat.{le-refl, le-div-iff-mul-le, div-lt-iff-lt-mul}
 use lib.ListN.{getD}
 use Rattle.rules.specs.declared.Setting.{Setting}
 use Rattle.rules.specs.State.{State, countersUsed, counterCell}
-use Rattle.rules.specs.Clock.{epoch, clears, turnedCounters, movedHead, turned}
+use Rattle.rules.specs.Clock.{epoch, turnedCounters, movedHead, turned}
 use Rattle.rules.specs.Filter.{Within, estimate}
 use Rattle.rules.specs.Decision.{activeEstimate}
-use Rattle.rules.proofs.Tests.{and-r, cond-no}
-use Rattle.rules.proofs.Cells.{map-same}
-use Rattle.rules.proofs.Turn.{same-clears, next-clears, turned-kept}
+use Rattle.rules.proofs.Clock.{next-clears, counters-none, turned-kept}
 
 -- the epoch of a tick between the ends of two epochs
 pub epoch-in : (len v k : ℕ) → 1 ≤ len → k * len ≤ v → v < (k + 1) * len → v / len ≡ k
 epoch-in len v k h lo hi = omega (arith, le-div-iff-mul-le {k = len} {x = k} {y = v} h .1 lo, div-lt-iff-lt-mul {k = len} {x = v} {y = k + 1} h .1 hi)
 
 -- ---- what is not cleared
-
-counters-now : (used e : ℕ) (cs : List ℕ) → turnedCounters used e e cs ≡ cs
-unfolding turnedCounters
-counters-now used e cs =
-    map-same (λ i c. cond (cleared i) 0 c)
-    (λ i c. cond-no (cleared i) 0 c (not-T (cleared i) (λ q. T-not (clears e e (i / 1024 % 2)) (same-clears e (i / 1024 % 2)) (and-r (ltb i used) (clears e e (i / 1024 % 2)) q)))) cs
-  where
-    cleared : ℕ → Bool
-    cleared i = ltb i used && clears e e (i / 1024 % 2)
 
 counter-next : (used e bank place : ℕ) (cs : List ℕ) → place < 1024
     → getD (turnedCounters used e (e + 1) cs) (counterCell bank ((e + 1) % 2) place) 0 ≡ getD cs (counterCell bank ((e + 1) % 2) place) 0
@@ -57,7 +44,7 @@ module _ (s : Setting) (at : ℕ → List ℕ) (st : State) (bank u : ℕ) where
 
   pub estimate-now : epoch s u ≡ e → activeEstimate s at (turned s st u) bank ≡ activeEstimate s at st bank
   unfolding turned movedHead
-  estimate-now h = ap tested h ∙ ap (λ cs. estimate cs bank (e % 2) (at (e % 2))) (counters-now (countersUsed s) e (st .counters))
+  estimate-now h = ap tested h ∙ ap (λ cs. estimate cs bank (e % 2) (at (e % 2))) (sym (counters-none (countersUsed s) e e (st .counters) (le-refl e)))
 
   pub estimate-next : epoch s u ≡ e + 1 → Within (at ((e + 1) % 2))
       → activeEstimate s at (turned s st u) bank ≡ estimate (st .counters) bank ((e + 1) % 2) (at ((e + 1) % 2))

@@ -2,14 +2,14 @@
 use mathlib.Core.Path.{_≡_, sym, ap, _∙_, subst}
 use mathlib.Core.Logic.{_≢_, _⊎_, inl, inr}
 use mathlib.Core.List.{List}
-use mathlib.Core.Bool.{Bool, not, _&&_, cond}
+use mathlib.Core.Bool.{not, cond}
 use Prim.Native.Nat.{ℕ, _+_, _-_, _≤_, _<_}
 use native.Mathlib.Omega.{arith}
 use native.Mathlib.Decide.{decLt}
-use lib.Dec.{T, leb, ltb, eqb, leb→le, le→leb, ltb→lt, lt→ltb, eqb→eq, eqb-refl, not-T, T-not}
+use lib.Dec.{T, eqb, eqb→eq, eqb-refl, not-T, T-not}
 use lib.ListN.{getD}
-use Rattle.rules.specs.History.{back, neverRises, matches, rowFree, find}
-use Rattle.rules.proofs.Tests.{and-i, and-l, and-r, cond-yes, cond-no}
+use Rattle.rules.specs.History.{back, neverRises, rowFree, find}
+use Rattle.rules.proofs.Tests.{cond-yes, cond-no}
 use Rattle.rules.proofs.Ring.{back-lt, falls, Match, match-parts, match-make, hit, Found, all-found, free-none, none-free}
 
 -- ---- the tick from which the history is free of the row

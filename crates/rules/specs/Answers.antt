@@ -1,7 +1,6 @@
 -- The answers and refusals, with the numbers that document 01 gives them.
 use Prim.Native.Nat.{ℕ}
 use mathlib.Core.Bool.{Bool, true, false}
-use mathlib.Core.List.{List, [], _∷_}
 use Rattle.rules.specs.declared.Cause.{Cause}
 use Rattle.rules.specs.declared.Cause.the-variants.{Bank, Rank, Row}
 use Rattle.rules.specs.declared.Answer.{Answer}

@@ -1,23 +1,23 @@
 -- What is proved about the rules: the statements, as types. Their proofs are in proofs/.
 use mathlib.Core.Path.{_≡_}
 use mathlib.Core.Logic.{_≢_}
-use mathlib.Core.List.{List, [], _∷_}
-use mathlib.Core.Bool.{Bool, true, false, not, cond}
-use Prim.Native.Nat.{ℕ, zero, suc, _+_, _-_, _*_, _/_, _%_, _^_, _≤_, _<_, min, max}
+use mathlib.Core.List.{List}
+use mathlib.Core.Bool.{Bool, not, cond}
+use Prim.Native.Nat.{ℕ, _+_, _-_, _*_, _/_, _%_, _^_, _≤_, _<_, min, max}
 use lib.Dec.{T, leb, ltb, eqb}
 use lib.ListN.{getD}
 use Rattle.rules.specs.declared.Setting.{Setting}
 use Rattle.rules.specs.declared.Answer.the-variants.{Opened}
 use Rattle.rules.specs.Cells.{ceilDiv, All}
-use Rattle.rules.specs.Answers.{Refusal, none, shortBuffer, badMemory}
-use Rattle.rules.specs.Setting.{epochLength, historyLength, settingRefusal}
+use Rattle.rules.specs.Answers.{none, shortBuffer, badMemory}
+use Rattle.rules.specs.Setting.{epochLength, historyLength}
 use Rattle.rules.specs.State.{State, rowWord, fresh, headWords}
-use Rattle.rules.specs.Clock.{epoch, activeFilter, turned}
+use Rattle.rules.specs.Clock.{epoch, turned}
 use Rattle.rules.specs.Filter.{Within, estimate}
 use Rattle.rules.specs.History.{find}
 use Rattle.rules.specs.Quota.{Policy, document01}
 use Rattle.rules.specs.Decision.{activeEstimate, rowRule, passesAt, waitTick}
-use Rattle.rules.specs.Calls.{Call, request, done, index, Reply, refused, answered, setupRefusal, callRefusal, step, replies, after, activations, timesActivated}
+use Rattle.rules.specs.Calls.{Call, request, done, index, refused, answered, setupRefusal, callRefusal, step, replies, after, activations, timesActivated}
 
 -- ---- demand 3 and spans of every length
 

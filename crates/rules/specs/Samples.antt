@@ -6,7 +6,7 @@ use lib.ListN.{getD, replicate}
 use Rattle.rules.specs.declared.Setting.{Setting}
 use Rattle.rules.specs.declared.Cause.the-variants.{Row}
 use Rattle.rules.specs.declared.Answer.the-variants.{Opened, Wait, Quota}
-use Rattle.rules.specs.Answers.{Refusal, none, aboveLimit, badTick, noneInFlight}
+use Rattle.rules.specs.Answers.{none, aboveLimit, badTick, noneInFlight}
 use Rattle.rules.specs.Setting.{historyLength, rowBound, settingRefusal}
 use Rattle.rules.specs.State.{State, headOf, fresh, threadCell}
 use Rattle.rules.specs.Hash.{hash, places}

@@ -2,7 +2,7 @@
 // The rules themselves are definitions in specs/, the theorems about them are in proofs/.
 // The head's methods stand here, with the type.
 ghost use mathlib.Core.Path.{_≡_};
-ghost use Prim.Native.Nat.{ℕ, _+_, _≤_, _<_, _^_};
+ghost use Prim.Native.Nat.{_+_, _<_, _^_};
 ghost use Rattle.rules.specs.Clock.{movedHead};
 ghost use Rattle.rules.specs.History.{nextPlace};
 ghost use Rattle.rules.specs.Decision.{activatedHead};

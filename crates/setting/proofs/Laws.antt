@@ -6,13 +6,14 @@ use Prim.Native.Nat.{ℕ, suc, _+_, _-_, _*_, _/_, _^_, _≤_, _<_}
 use native.Mathlib.Omega.{arith}
 use native.Mathlib.Numerals.{add-one}
 use native.Mathlib.Nat.{mul-le-mul, mul-le-mul-left, div-lt-iff-lt-mul, le-div-iff-mul-le}
-use lib.Dec.{T, leb, ltb, eqb, leb→le, le→leb, ltb→lt, lt→ltb, eqb→eq}
+use lib.Dec.{leb, ltb, eqb, leb→le, le→leb, ltb→lt, lt→ltb, eqb→eq}
 use lib.ListN.{getD}
 use borrow.Author.Tests.{eq-eqb, lt-ltb}
 use Rattle.rules.specs.declared.Setting.{Setting}
 use Rattle.rules.specs.Cells.{ceilDiv, every}
-use Rattle.rules.specs.Setting.{rowBound, fieldsInRange, seedsInRange}
+use Rattle.rules.specs.Setting.{Limits, rowBound, fieldsInRange, seedsInRange}
 use Rattle.rules.proofs.Tests.{and-i, and-l, and-r, holds, same-test}
+use Rattle.rules.proofs.Accept.{Ranges, ranges}
 
 -- ---- the fields
 
@@ -20,33 +21,12 @@ use Rattle.rules.proofs.Tests.{and-i, and-l, and-r, holds, same-test}
 abbrev pub inRange : ℕ → ℕ → Setting → List ℕ → Bool
 inRange threshold history s seeds = fieldsInRange (record { threshold = threshold; history = history }) s && seedsInRange seeds
 
--- what the code's arithmetic needs of the fields
-pub record Ranges (threshold : ℕ) (s : Setting) : Type 0 where
-  pub w-low : 2 ≤ s .w
-  pub w-high : s .w ≤ 2 ^ 30
-  pub trc-high : s .trc ≤ 65535
-  pub tfaw-low : 1 ≤ s .tfaw
-  pub tfaw-high : s .tfaw ≤ 65535
-  pub n-high : s .n ≤ threshold
-  pub td-low : 1 ≤ s .td
-  pub td-high : s .td ≤ 2 ^ 29
-  pub l-high : s .l ≤ 2 ^ 24
-
-pub ranges : (threshold history : ℕ) (s : Setting) (seeds : List ℕ) → inRange threshold history s seeds ≡ true → Ranges threshold s
-unfolding fieldsInRange
-ranges threshold history s seeds e =
-    let ok : T (inRange threshold history s seeds) = holds (inRange threshold history s seeds) e in
-    record {
-      w-low = leb→le 2 (s .w) (search (and-l, and-r) depth 20);
-      w-high = leb→le (s .w) (2 ^ 30) (search (and-l, and-r) depth 20);
-      trc-high = leb→le (s .trc) 65535 (search (and-l, and-r) depth 20);
-      tfaw-low = leb→le 1 (s .tfaw) (search (and-l, and-r) depth 20);
-      tfaw-high = leb→le (s .tfaw) 65535 (search (and-l, and-r) depth 20);
-      n-high = leb→le (s .n) threshold (search (and-l, and-r) depth 20);
-      td-low = leb→le 1 (s .td) (search (and-l, and-r) depth 20);
-      td-high = leb→le (s .td) (2 ^ 29) (search (and-l, and-r) depth 20);
-      l-high = leb→le (s .l) (2 ^ 24) (search (and-l, and-r) depth 20);
-    }
+-- the ranges that the code's arithmetic needs
+pub in-ranges : (threshold history : ℕ) (s : Setting) (seeds : List ℕ) → inRange threshold history s seeds ≡ true
+    → Ranges (record { threshold = threshold; history = history }) s
+in-ranges threshold history s seeds e =
+    let m : Limits = record { threshold = threshold; history = history } in
+    ranges m s (and-l (fieldsInRange m s) (seedsInRange seeds) (holds (inRange threshold history s seeds) e))
 
 -- the ranges of the fields do not depend on the greatest H
 pub fields-any : (threshold history : ℕ) (s : Setting)

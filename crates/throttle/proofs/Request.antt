@@ -40,18 +40,18 @@ unfolding rowBound
 bounds ok =
     record {
       epoch = epoch-long ok;
-      w-high = ok .w-high;
-      trc = ok .trc-high;
-      tfaw-low = ok .tfaw-low;
-      tfaw = ok .tfaw-high;
-      td = ok .td-high;
+      w-high = ok .ranges .w-high;
+      trc = ok .ranges .trc-high;
+      tfaw-low = ok .ranges .tfaw-low;
+      tfaw = ok .ranges .tfaw-high;
+      td = ok .ranges .td-high;
       delay = ok .delay;
-      n = ok .n-high;
+      n = ok .ranges .n-high;
       scale = omega (arith, ok .bound);
-      l = ok .l-high;
-      q = ok .q-high;
-      banks = ok .banks-high;
-      threads = ok .threads-high;
+      l = ok .ranges .l-high;
+      q = ok .ranges .q-high;
+      banks = ok .ranges .banks-high;
+      threads = ok .ranges .threads-high;
       history = ok .short;
     }
 
@@ -122,7 +122,7 @@ module _ (s : Setting) (seeds : List ℕ) (st : State) (tick bank thread row : �
   few-flying a ea e =
       let q = opened-rules document01 s (λ f. four) moved bank thread row (sym ea ∙ answer-opened a e) .0 in
       let c = indexCounter s (moved .threads) bank thread (activeFilter s (moved .head .last)) in
-      omega (arith, ltb→lt (inFlightHere s (moved .threads) bank thread) (quotaDown s c) q, quota-most s c, k .setting .q-high)
+      omega (arith, ltb→lt (inFlightHere s (moved .threads) bank thread) (quotaDown s c) q, quota-most s c, k .setting .ranges .q-high)
 
   -- ---- the outcome
 

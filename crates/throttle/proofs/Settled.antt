@@ -20,7 +20,7 @@ use Rattle.rules.specs.Hash.{places}
 use Rattle.rules.specs.Quota.{document01, quotaDown, indexCounter}
 use Rattle.rules.specs.Calls.{Call, request, done, index, Reply, refused, answered, finished, shown, Outcome, setup, setupRefusal, callRefusal, doneRefusal, unlessRefused, requested, reported, indexShown, step}
 use Rattle.rules.proofs.Tests.{and-l, and-r}
-use Rattle.rules.proofs.Cells.{clear-kept}
+use Rattle.rules.proofs.Clearing.{clear-kept}
 use Rattle.throttle.specs.Left.{Left, left, state, found, outcome, leaves}
 use Rattle.throttle.specs.Left.{oneLess}
 

@@ -1,23 +1,20 @@
 -- `filter::clear_filter` meets its contract. The loop has cleared the filter in the first b banks.
-use Prim.Native.Nat.{_+_, _*_, _-_, _≤_}
-use mathlib.Core.Path.{_≡_, refl, sym, ap, _∙_}
+use Prim.Native.Nat.{_-_}
 use native.Mathlib.Omega.{arith}
-use lib.ListN.{length}
-use Rattle.rules.specs.Cells.{clearCells}
-use Rattle.filter.specs.Changes.{inRun, inFilter}
-use Rattle.filter.proofs.Clearing.{filter-none, filter-more}
+use Rattle.rules.proofs.Clearing.{Cleared, cleared-all}
+use Rattle.filter.proofs.Clearing.{banksOf, filter-none, filter-more}
 use borrow.Author.Needs.{needs}
 use Rattle.filter.proofs.clear_filter.Statement.{statement}
 use Rattle.filter.proofs.clear_filter.Tie as tie
 
 abbrev Inv-loop : tie.InvT-loop
-Inv-loop counters₀ banks f b₀ counters b = (b ≤ banks) × (length counters ≡ length counters₀) × (counters ≡ clearCells (inFilter b f) counters₀)
+Inv-loop counters₀ banks f b₀ counters b = Cleared (banksOf f) banks counters₀ b counters
 
 abbrev μ-loop : tie.MeasureT-loop
 μ-loop counters₀ banks f b₀ counters b = banks - b
 
 loop-holds : tie.Need-loop-holds Inv-loop μ-loop
-loop-holds c = (omega arith, refl, sym (filter-none (c .before .args .f) (c .before .args .counters .now)))
+loop-holds c = filter-none (c .before .args .f) (c .before .args .banks) (c .before .args .counters .now)
 
 mul-clear-run : tie.Need-mul-clear-run Inv-loop μ-loop
 mul-clear-run c = search needs
@@ -39,21 +36,15 @@ loop-less c = search needs
 
 loop-again : tie.Need-loop-again Inv-loop μ-loop
 loop-again c =
-    let a = c .before .before .before .before .before .before .before .args in
-    let l = c .before .before .before .before .before .loop in (
-      omega arith,
-      c .before .before .clear-run .kept .0 ∙ l .inv .1,
-      c .before .before .clear-run .ensures ∙ ap (λ x. clearCells (inRun (l .b * 2048 + a .f * 1024) 1024) x) (l .inv .2) ∙ filter-more (l .b) (a .f) (a .counters .now) (omega arith),
-    )
+    let r = c .before .before .clear-run in
+    filter-more (c .before .before .before .before .before .before .before .args .f) (c .before .before .before .before .before .loop .inv) (r .last .0)
+    (search needs) (omega arith) (r .kept .0) (r .ensures)
 
 same-length : tie.Need-same-length Inv-loop μ-loop
-same-length c = c .before .loop .inv .1
+same-length c = c .before .loop .inv .long
 
 returns : tie.Need-returns Inv-loop μ-loop
-returns c =
-    let l = c .before .loop in
-    let z : l .b ≡ c .before .before .before .args .banks = omega arith in
-    rw z at (l .inv .2)
+returns c = cleared-all (c .before .loop .inv) (omega arith)
 
 pub clear-filter-spec : {M : Type 1} → statement M
 clear-filter-spec =

@@ -1,12 +1,12 @@
 -- `filter::raise` meets its contract. The sum fits as it does for counters of every width.
-use Rattle.filter.proofs.Counting.{raised-below, raised-full}
-use Rattle.filter.proofs.Widths.{sum-fits}
+use Prim.Native.Nat.{_^_}
+use Rattle.rules.proofs.Filter.{raised-below, raised-full, sum-lt}
 use borrow.Author.Needs.{needs}
 use Rattle.filter.proofs.raise.Statement.{statement}
 use Rattle.filter.proofs.raise.Tie as tie
 
 add-result : tie.Need-add-result
-add-result c = let k = sum-fits 16 (c .before .args .n) (c .before .args .x) (search needs) (c .if1 .taken) in search needs
+add-result c = let k = sum-lt (c .before .args .n) (c .before .args .x) (2 ^ 16) (search needs) (c .if1 .taken) in search needs
 
 returns : tie.Need-returns
 returns c = raised-below (c .before .args .n) (c .before .args .x) (c .if1 .taken)

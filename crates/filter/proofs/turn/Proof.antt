@@ -1,8 +1,9 @@
 -- `filter::turn` meets its contract, by the three cases of the clock's move.
 use Prim.Native.Nat.{_*_}
-use mathlib.Core.Path.{sym, _∙_}
+use mathlib.Core.Path.{_∙_}
 use native.Mathlib.Omega.{arith}
-use Rattle.filter.proofs.Clearing.{turned-none, turned-one, turned-both}
+use Rattle.rules.proofs.Clock.{counters-none}
+use Rattle.filter.proofs.Clearing.{turned-one, turned-both}
 use borrow.Author.Needs.{needs}
 use Rattle.filter.proofs.turn.Statement.{statement}
 use Rattle.filter.proofs.turn.Tie as tie
@@ -10,7 +11,7 @@ use Rattle.filter.proofs.turn.Tie as tie
 returns : tie.Need-returns
 returns c =
     let a = c .before .before .args in
-    sym (turned-none (a .banks * 2048) (a .from) (a .to) (a .counters .now) (c .if1 .taken))
+    counters-none (a .banks * 2048) (a .from) (a .to) (a .counters .now) (c .if1 .taken)
 
 add-if2 : tie.Need-add-if2
 add-if2 c = search needs

@@ -3,7 +3,8 @@ use Prim.Native.Nat.{_+_, _*_, _≤_}
 use mathlib.Core.Path.{sym}
 use native.Mathlib.Omega.{arith}
 use native.Mathlib.Nat.{add-zero}
-use Rattle.quota.proofs.Index.{cell-in, group-small}
+use Rattle.rules.proofs.Cells.{thread-in}
+use Rattle.quota.proofs.Index.{group-small}
 use borrow.Author.Needs.{needs}
 use Rattle.quota.proofs.cell.Statement.{statement}
 use Rattle.quota.proofs.cell.Tie as tie
@@ -21,7 +22,7 @@ mul-result-2 : tie.Need-mul-result-2
 mul-result-2 c = omega (arith, small c)
 
 returns : tie.Need-returns
-returns c = (sym (add-zero ((c .before .args .bank * c .before .args .s .threads + c .before .args .thread) * 3)), cell-in (c .before .args .s) (c .before .args .bank) (c .before .args .thread) (search needs) (search needs))
+returns c = (sym (add-zero ((c .before .args .bank * c .before .args .s .threads + c .before .args .thread) * 3)), omega (arith, thread-in (c .before .args .s) (c .before .args .bank) (c .before .args .thread) 2 (search needs) (search needs) (omega arith)))
 
 pub cell-spec : {M : Type 1} → statement M
 cell-spec =

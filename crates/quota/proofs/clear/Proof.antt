@@ -1,23 +1,19 @@
 -- `quota::clear`. The loop's invariant: the cells passed are 0 and the others are as they were.
-use Prim.Native.Nat.{_-_, _≤_}
-use mathlib.Core.Path.{_≡_, refl}
+use Prim.Native.Nat.{_-_}
 use native.Mathlib.Omega.{arith}
-use lib.Dec.{ltb}
-use lib.ListN.{length, length-set}
-use Rattle.rules.specs.Cells.{clearCells}
-use Rattle.rules.proofs.Clearing.{first-none, first-more}
+use Rattle.rules.proofs.Clearing.{Cleared, cleared-all, first, first-none, first-more}
 use borrow.Author.Needs.{needs}
 use Rattle.quota.proofs.clear.Statement.{statement}
 use Rattle.quota.proofs.clear.Tie as tie
 
 abbrev Inv-loop : tie.InvT-loop
-Inv-loop threads₀ used i₀ threads i = (i ≤ used) × (length threads ≡ length threads₀) × (threads ≡ clearCells (λ j. ltb j i) threads₀)
+Inv-loop threads₀ used i₀ threads i = Cleared first used threads₀ i threads
 
 abbrev μ-loop : tie.MeasureT-loop
 μ-loop threads₀ used i₀ threads i = used - i
 
 loop-holds : tie.Need-loop-holds Inv-loop μ-loop
-loop-holds c = (omega arith, refl, first-none (c .args .threads .now))
+loop-holds c = first-none (c .args .used) (c .args .threads .now)
 
 mul-threads : tie.Need-mul-threads Inv-loop μ-loop
 mul-threads c = search needs
@@ -32,17 +28,13 @@ loop-less : tie.Need-loop-less Inv-loop μ-loop
 loop-less c = search needs
 
 loop-again : tie.Need-loop-again Inv-loop μ-loop
-loop-again c =
-    let l = c .before .loop in
-    (omega arith, simp length-set (l .inv .1), rw (l .inv .2) (first-more (c .before .before .args .threads .now) (l .i) (omega arith)))
+loop-again c = first-more (c .before .loop .inv) (omega arith) (search needs)
 
 same-length : tie.Need-same-length Inv-loop μ-loop
-same-length c = search needs
+same-length c = c .before .loop .inv .long
 
 returns : tie.Need-returns Inv-loop μ-loop
-returns c =
-    let z : c .before .loop .i ≡ c .before .before .args .used = omega arith in
-    rw z at (c .before .loop .inv .2)
+returns c = cleared-all (c .before .loop .inv) (omega arith)
 
 pub clear-spec : {M : Type 1} → statement M
 clear-spec =

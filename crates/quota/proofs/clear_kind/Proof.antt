@@ -1,9 +1,7 @@
 -- `quota::clear_kind`. The loop's invariant: the cells of the kind in the groups passed are 0 and the others are as they were.
-use Prim.Native.Nat.{_-_, _≤_}
-use mathlib.Core.Path.{_≡_, refl}
+use Prim.Native.Nat.{_-_}
 use native.Mathlib.Omega.{arith}
-use lib.ListN.{length, length-set}
-use Rattle.rules.specs.Cells.{clearCells}
+use Rattle.rules.proofs.Clearing.{Cleared, cleared-all}
 use Rattle.quota.specs.Kinds.{kindBelow}
 use Rattle.quota.proofs.Turns.{kind-none, kind-more}
 use borrow.Author.Needs.{needs}
@@ -11,13 +9,13 @@ use Rattle.quota.proofs.clear_kind.Statement.{statement}
 use Rattle.quota.proofs.clear_kind.Tie as tie
 
 abbrev Inv-loop : tie.InvT-loop
-Inv-loop threads₀ kind groups i₀ threads i = (i ≤ groups) × (length threads ≡ length threads₀) × (threads ≡ clearCells (kindBelow kind i) threads₀)
+Inv-loop threads₀ kind groups i₀ threads i = Cleared (kindBelow kind) groups threads₀ i threads
 
 abbrev μ-loop : tie.MeasureT-loop
 μ-loop threads₀ kind groups i₀ threads i = groups - i
 
 loop-holds : tie.Need-loop-holds Inv-loop μ-loop
-loop-holds c = (omega arith, refl, kind-none (c .args .kind) (c .args .threads .now))
+loop-holds c = kind-none (c .args .kind) (c .args .groups) (c .args .threads .now)
 
 mul-threads : tie.Need-mul-threads Inv-loop μ-loop
 mul-threads c = search needs
@@ -38,17 +36,13 @@ loop-less : tie.Need-loop-less Inv-loop μ-loop
 loop-less c = search needs
 
 loop-again : tie.Need-loop-again Inv-loop μ-loop
-loop-again c =
-    let l = c .before .loop in
-    (omega arith, simp length-set (l .inv .1), rw (l .inv .2) (kind-more (c .before .before .args .threads .now) (c .before .before .args .kind) (l .i) (search needs) (omega arith)))
+loop-again c = kind-more (c .before .loop .inv) (search needs) (omega arith) (search needs)
 
 same-length : tie.Need-same-length Inv-loop μ-loop
-same-length c = search needs
+same-length c = c .before .loop .inv .long
 
 returns : tie.Need-returns Inv-loop μ-loop
-returns c =
-    let z : c .before .loop .i ≡ c .before .before .args .groups = omega arith in
-    rw z at (c .before .loop .inv .2)
+returns c = cleared-all (c .before .loop .inv) (omega arith)
 
 pub clear-kind-spec : {M : Type 1} → statement M
 clear-kind-spec =

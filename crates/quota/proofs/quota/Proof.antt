@@ -1,8 +1,8 @@
 -- `quota::quota`: the product fits 32 bits, and the quotient is the definition's and at most Q.
 use mathlib.Core.Path.{_∙_}
 use native.Mathlib.Omega.{arith}
-use Rattle.rules.specs.Setting.{indexScale}
-use Rattle.quota.proofs.Index.{share-small, share-le, quota-is}
+use Rattle.rules.proofs.Fits.{quota-most}
+use Rattle.quota.proofs.Index.{share-small, quota-is}
 use borrow.Author.Needs.{needs}
 use Rattle.quota.proofs.quota.Statement.{statement}
 use Rattle.quota.proofs.quota.Tie as tie
@@ -30,11 +30,9 @@ cast-result c = search needs
 
 returns : tie.Need-returns
 returns c =
-    let s = c .before .before .before .before .args .s in
-    let left = c .before .before .remaining .result in (
-      c .floor-div .ensures ∙ quota-is s (c .before .before .before .before .args .c) left (c .before .before .remaining .ensures .0),
-      omega (arith, share-le (s .q) left (indexScale s) (c .before .before .remaining .ensures .1)),
-    )
+    let a = c .before .before .before .before .args in
+    let e = c .floor-div .ensures ∙ quota-is (a .s) (a .c) (c .before .before .remaining .result) (c .before .before .remaining .ensures .0) in
+    (e, omega (arith, e, quota-most (a .s) (a .c)))
 
 pub quota-spec : {M : Type 1} → statement M
 quota-spec =

@@ -1,20 +1,18 @@
--- `quota::raise`: the two cases of the definition.
-use borrow.Author.Tests.{lt-ltb, le-ltb}
-use Rattle.rules.specs.Filter.{raised}
+-- `quota::raise` meets its contract. The sum fits as it does for counters of every width.
+use Prim.Native.Nat.{_^_}
+use Rattle.rules.proofs.Filter.{raised-below, raised-full, sum-lt}
 use borrow.Author.Needs.{needs}
 use Rattle.quota.proofs.raise.Statement.{statement}
 use Rattle.quota.proofs.raise.Tie as tie
 
 add-result : tie.Need-add-result
-add-result c = search needs
+add-result c = let k = sum-lt (c .before .args .limit) (c .before .args .c) (2 ^ 32) (search needs) (c .if1 .taken) in search needs
 
 returns : tie.Need-returns
-unfolding raised
-returns c = simp (lt-ltb _ _ (c .if1 .taken))
+returns c = raised-below (c .before .args .limit) (c .before .args .c) (c .if1 .taken)
 
 returns-2 : tie.Need-returns-2
-unfolding raised
-returns-2 c = simp (le-ltb _ _ (c .if1 .left))
+returns-2 c = raised-full (c .before .args .limit) (c .before .args .c) (c .if1 .left)
 
 pub raise-spec : {M : Type 1} → statement M
 raise-spec =

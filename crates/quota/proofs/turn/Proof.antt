@@ -28,7 +28,7 @@ returns-2 : tie.Need-returns-2
 returns-2 c =
     let a = c .before .before .before .before .before .before .before .before .before .before .before .args in
     c .before .before .clear-kind2 .ensures ∙ ap (clearCells (kindBelow 1 (a .used / 3))) (c .before .before .before .before .before .before .clear-kind .ensures)
-    ∙ turned-both (a .used) (a .used / 3) (a .from) (a .to) (a .threads .now) (omega arith) (c .before .before .before .before .before .before .before .before .if2 .taken)
+    ∙ turned-both (a .used) (a .from) (a .to) (a .threads .now) (a .used / 3) (omega arith) (c .before .before .before .before .before .before .before .before .if2 .taken)
 
 clear-kind-requires-3 : tie.Need-clear-kind-requires-3
 clear-kind-requires-3 c κs = search needs
@@ -39,7 +39,7 @@ same-length-2 c = search needs
 returns-3 : tie.Need-returns-3
 returns-3 c =
     let a = c .before .before .before .before .before .before .before .args in
-    c .before .before .clear-kind3 .ensures ∙ turned-one (a .used) (a .used / 3) (a .from) (a .to) (a .threads .now) (omega arith) (omega arith)
+    c .before .before .clear-kind3 .ensures ∙ turned-one (a .used) (a .from) (a .to) (a .threads .now) (a .used / 3) (omega arith) (omega arith)
 
 pub turn-spec : {M : Type 1} → statement M
 turn-spec =

@@ -4,7 +4,8 @@ use mathlib.Core.Bool.{true, false}
 use native.Mathlib.Omega.{arith}
 use borrow.Author.Tests.{lt-ltb, le-ltb, ltb-false, not-true, not-false}
 use Rattle.rules.specs.Setting.{settingRefusal}
-use Rattle.setting.proofs.Laws.{inRange, Ranges, ranges, fields-any}
+use Rattle.rules.proofs.Accept.{Ranges}
+use Rattle.setting.proofs.Laws.{inRange, in-ranges, fields-any}
 use borrow.Author.Needs.{needs}
 use Rattle.setting.proofs.refusal.Statement.{statement}
 use Rattle.setting.proofs.refusal.Tie as tie
@@ -21,8 +22,8 @@ out c = sym (tested (c .before)) ∙ not-true _ (c .if1 .taken)
 inside : (c : tie.Else1) → inRange (c .before .before .before .before .before .args .threshold) (c .before .before .before .before .before .args .history) (c .before .before .before .before .before .args .s) (c .before .before .before .before .before .args .seeds .now) ≡ true
 inside c = sym (tested (c .before)) ∙ not-false _ (c .if1 .left)
 
-ok : (c : tie.Else1) → Ranges (c .before .before .before .before .before .args .threshold) (c .before .before .before .before .before .args .s)
-ok c = ranges (c .before .before .before .before .before .args .threshold) (c .before .before .before .before .before .args .history) (c .before .before .before .before .before .args .s) (c .before .before .before .before .before .args .seeds .now) (inside c)
+ok : (c : tie.Else1) → Ranges (record { threshold = c .before .before .before .before .before .args .threshold; history = c .before .before .before .before .before .args .history }) (c .before .before .before .before .before .args .s)
+ok c = in-ranges (c .before .before .before .before .before .args .threshold) (c .before .before .before .before .before .args .history) (c .before .before .before .before .before .args .s) (c .before .before .before .before .before .args .seeds .now) (inside c)
 
 fields-in-range-requires : tie.Need-fields-in-range-requires
 fields-in-range-requires c κs = search needs

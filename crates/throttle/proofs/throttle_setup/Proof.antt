@@ -46,13 +46,13 @@ returns c =
     [] (a .head .now) (a .counters .now) (a .ticks .now) (a .rows .now) (a .threads .now) (code-is (c .before)) (c .if1 .taken)
 
 mul-clear : tie.Need-mul-clear
-mul-clear c = omega (arith, ok (c .before .before) .setting .banks-high)
+mul-clear c = omega (arith, ok (c .before .before) .setting .ranges .banks-high)
 
 clear-requires : tie.Need-clear-requires
 clear-requires c κs = ok (c .before .before) .long .counters
 
 history-length-requires : tie.Need-history-length-requires
-history-length-requires c κs = let k = ok (c .before .before .before .before .before .before .before) .setting in (k .tfaw-low, k .tfaw-high, k .td-high)
+history-length-requires c κs = let k = ok (c .before .before .before .before .before .before .before) .setting in (k .ranges .tfaw-low, k .ranges .tfaw-high, k .ranges .td-high)
 
 clear-requires-2 : tie.Need-clear-requires-2
 clear-requires-2 c κs =
@@ -63,12 +63,12 @@ clear-requires-2 c κs =
 mul-clear-2 : tie.Need-mul-clear-2
 mul-clear-2 c =
     let k = ok (c .before .before .before .before .before .before .before .before .before .before .before .before .before .before .before) .setting in
-    omega (arith, cells-small (c .before .before .before .before .before .before .before .before .before .before .before .before .before .before .before .before .before .load .result .banks) (c .before .before .before .before .before .before .before .before .before .before .before .before .before .before .before .before .before .load .result .threads) (k .banks-high) (k .threads-high))
+    omega (arith, cells-small (c .before .before .before .before .before .before .before .before .before .before .before .before .before .before .before .before .before .load .result .banks) (c .before .before .before .before .before .before .before .before .before .before .before .before .before .before .before .before .before .load .result .threads) (k .ranges .banks-high) (k .ranges .threads-high))
 
 mul-clear-3 : tie.Need-mul-clear-3
 mul-clear-3 c =
     let k = ok (c .before .before .before .before .before .before .before .before .before .before .before .before .before .before .before) .setting in
-    omega (arith, cells-small (c .before .before .before .before .before .before .before .before .before .before .before .before .before .before .before .before .before .load .result .banks) (c .before .before .before .before .before .before .before .before .before .before .before .before .before .before .before .before .before .load .result .threads) (k .banks-high) (k .threads-high))
+    omega (arith, cells-small (c .before .before .before .before .before .before .before .before .before .before .before .before .before .before .before .before .before .load .result .banks) (c .before .before .before .before .before .before .before .before .before .before .before .before .before .before .before .before .before .load .result .threads) (k .ranges .banks-high) (k .ranges .threads-high))
 
 clear-requires-3 : tie.Need-clear-requires-3
 clear-requires-3 c κs = ok (c .before .before .before .before .before .before .before .before .before .before .before .before .before .before .before) .long .threads

@@ -36,10 +36,10 @@ returns c =
     ∙ ap refusalNumber (sym (orElse-first r _ (λ z. c .if1 .taken (c .before .setup-refusal .ensures ∙ z))) ∙ sym (call-test (a .s) (a .seeds .now) st (a .tick) (a .bank) (a .thread)))
 
 history-length-requires : tie.Need-history-length-requires
-history-length-requires c κs = let k = ok (c) .setting in (k .tfaw-low, k .tfaw-high, k .td-high)
+history-length-requires c κs = let k = ok (c) .setting in (k .ranges .tfaw-low, k .ranges .tfaw-high, k .ranges .td-high)
 
 memory-ok-requires : tie.Need-memory-ok-requires
-memory-ok-requires c κs = let k = ok (c .before) in (k .setting .banks-high, c .history-length .ensures, rw (← c .history-length .ensures) at (k .long .ticks))
+memory-ok-requires c κs = let k = ok (c .before) in (k .setting .ranges .banks-high, c .history-length .ensures, rw (← c .history-length .ensures) at (k .long .ticks))
 
 returns-2 : tie.Need-returns-2
 returns-2 c =

@@ -30,7 +30,7 @@ returns c =
 flying-refusal-requires : tie.Need-flying-refusal-requires
 flying-refusal-requires c κs =
     let k = ok (c) in
-    (k .bank-in, k .thread-in, k .setting .banks-high, k .setting .threads-high, k .long .threads)
+    (k .bank-in, k .thread-in, k .setting .ranges .banks-high, k .setting .ranges .threads-high, k .long .threads)
 
 returns-2 : tie.Need-returns-2
 returns-2 c =

@@ -26,10 +26,10 @@ returns c =
     c .before .refusal .ensures ∙ ap refusalNumber (sym (orElse-first r _ (λ z. c .if1 .taken (c .before .refusal .ensures ∙ z))))
 
 history-length-requires : tie.Need-history-length-requires
-history-length-requires c κs = let a = ok (c) in (a .tfaw-low, a .tfaw-high, a .td-high)
+history-length-requires c κs = let a = ok (c) in (a .ranges .tfaw-low, a .ranges .tfaw-high, a .ranges .td-high)
 
 too-short-requires : tie.Need-too-short-requires
-too-short-requires c κs = let a = ok (c .before) in (a .banks-high, a .threads-high, c .history-length .ensures)
+too-short-requires c κs = let a = ok (c .before) in (a .ranges .banks-high, a .ranges .threads-high, c .history-length .ensures)
 
 returns-2 : tie.Need-returns-2
 returns-2 c =

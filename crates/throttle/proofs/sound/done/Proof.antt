@@ -59,7 +59,7 @@ returns c =
 flying-refusal-requires : tie.Need-flying-refusal-requires
 flying-refusal-requires c κs =
     let k = ok (c .before) in
-    (k .bank-in, k .thread-in, k .setting .banks-high, k .setting .threads-high, k .long .threads)
+    (k .bank-in, k .thread-in, k .setting .ranges .banks-high, k .setting .ranges .threads-high, k .long .threads)
 
 same-length : tie.Need-same-length
 same-length c = search needs
