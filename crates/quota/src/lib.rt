@@ -28,15 +28,26 @@ fn floor_div(a: u32, b: u32) -> u32
     a / b
 }
 
-// The quota of a thread in a bank whose index counter in test is c. All products are below 2^32, so the division is one of 32 bits.
-pub fn quota(s: rules::Setting, c: u32) -> u64
+// The quota by its formula. All products are below 2^32, so the division is one of 32 bits.
+fn share(s: rules::Setting, c: u32) -> u64
     requires { ⌜ (s .n < s .l) × (s .l ≤ 2 ^ 24) × (s .q ≤ 255) ⌝ }
     ensures { λ r. ⌜ (r ≡ quotaDown s c) × (r ≤ 255) ⌝ }
 {
     let scale = (s.l - s.n) as u32;
     let left = remaining(c, scale);
-    let share = s.q as u32 * left;
-    floor_div(share, scale) as u64
+    let product = s.q as u32 * left;
+    floor_div(product, scale) as u64
+}
+
+// The quota of a thread in a bank whose index counter in test is c. It is Q, with no division, while the counter is 0.
+pub fn quota(s: rules::Setting, c: u32) -> u64
+    requires { ⌜ (s .n < s .l) × (s .l ≤ 2 ^ 24) × (s .q ≤ 255) ⌝ }
+    ensures { λ r. ⌜ (r ≡ quotaDown s c) × (r ≤ 255) ⌝ }
+{
+    if c == 0 {
+        return s.q;
+    }
+    share(s, c)
 }
 
 // The first of a thread's three cells in a bank.

@@ -53,7 +53,12 @@ pub fn hammer(side: &mut impl Side, setting: &[u64; 9], plan: &Plan) -> Vec<u64>
 
 /// Hammers a few rows in all banks at random: mostly as early as allowed, at
 /// times after a pause. Returns the most activations of one row in W ticks.
-pub fn rave(side: &mut impl Side, setting: &[u64; 9], numbers: &mut Numbers, calls: u64) -> usize {
+pub fn hammer_at_random(
+    side: &mut impl Side,
+    setting: &[u64; 9],
+    numbers: &mut Numbers,
+    calls: u64,
+) -> usize {
     let number = side.call(&Call::SETUP).number;
     assert_eq!(number, 0, "set-up of {setting:?}");
     let mut opened: HashMap<(u64, u16), Vec<u64>> = HashMap::new();
@@ -102,7 +107,13 @@ fn ask(side: &mut impl Side, setting: &[u64; 9], tick: u64, bank: u64, row: u16)
                 return Reply::Opened;
             }
             4 => {}
-            _ => return Reply::Wait(answer.out[1]),
+            _ => {
+                assert!(
+                    answer.out[1] > tick,
+                    "{answer:?} to {call:?} on {setting:?}"
+                );
+                return Reply::Wait(answer.out[1]);
+            }
         }
     }
     Reply::Held

@@ -72,7 +72,7 @@ impl Walk {
             call.row = self.numbers.word() as u16;
         }
         if kind == Kind::Done && !self.numbers.one_in(4) {
-            self.aim_at_flying(&setting, pair, &mut call);
+            self.aim_at_in_flight(&setting, pair, &mut call);
         }
         if kind == Kind::Request && setting[TD] > LONG_DELAY {
             self.shorten(&setting, pair, &mut call);
@@ -149,16 +149,13 @@ impl Walk {
 
     /// Aims a done at a thread that has something in flight, if a few tries
     /// find one.
-    fn aim_at_flying(&mut self, setting: &[u64; 9], pair: &Pair, call: &mut Call) {
+    fn aim_at_in_flight(&mut self, setting: &[u64; 9], pair: &Pair, call: &mut Call) {
         let threads = pair.memory().threads.cells();
         for _ in 0..8 {
             let bank = self.numbers.within(0, setting[BANKS].clamp(1, 16) - 1);
             let thread = self.numbers.within(0, setting[THREADS].clamp(1, 32) - 1);
             let place = (bank * setting[THREADS].min(32) + thread) * 3 + 2;
-            if threads
-                .get(place as usize)
-                .is_some_and(|&flying| flying > 0)
-            {
+            if threads.get(place as usize).is_some_and(|&count| count > 0) {
                 (call.bank, call.thread) = (bank, thread);
                 return;
             }

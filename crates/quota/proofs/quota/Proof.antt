@@ -1,48 +1,22 @@
--- `quota::quota`: the product fits 32 bits, and the quotient is the definition's and at most Q.
-use mathlib.Core.Path.{_∙_}
-use native.Mathlib.Omega.{arith}
-use Rattle.rules.proofs.Fits.{quota-most}
-use Rattle.quota.proofs.Index.{share-small, quota-is}
+-- `quota::quota`: the full quota while the counter is 0, and else the formula.
+use mathlib.Core.Path.{_≡_, sym, ap, _∙_}
 use borrow.Author.Needs.{needs}
+use Rattle.rules.specs.Quota.{quotaDown}
+use Rattle.quota.proofs.Index.{quota-full}
 use Rattle.quota.proofs.quota.Statement.{statement}
 use Rattle.quota.proofs.quota.Tie as tie
 
-sub-scale : tie.Need-sub-scale
-sub-scale c = search needs
-
-cast-scale : tie.Need-cast-scale
-cast-scale c = search needs
-
-remaining-requires : tie.Need-remaining-requires
-remaining-requires c κs = search needs
-
-cast-share : tie.Need-cast-share
-cast-share c = search needs
-
-mul-share : tie.Need-mul-share
-mul-share c = omega (arith, share-small (c .before .before .before .args .s .q) (c .before .remaining .result) (search needs) (omega arith))
-
-floor-div-requires : tie.Need-floor-div-requires
-floor-div-requires c κs = (omega arith, omega arith, share-small (c .before .before .before .args .s .q) (c .before .remaining .result) (search needs) (omega arith))
-
-cast-result : tie.Need-cast-result
-cast-result c = search needs
-
 returns : tie.Need-returns
 returns c =
-    let a = c .before .before .before .before .args in
-    let e = c .floor-div .ensures ∙ quota-is (a .s) (a .c) (c .before .before .remaining .result) (c .before .before .remaining .ensures .0) in
-    (e, omega (arith, e, quota-most (a .s) (a .c)))
+    let a = c .before .args in
+    let p = c .before .pre in
+    (quota-full (a .s) (p .0) ∙ sym (ap (quotaDown (a .s)) (c .if1 .taken)), p .2)
+
+share-requires : tie.Need-share-requires
+share-requires c κs = search needs
+
+returns-2 : tie.Need-returns-2
+returns-2 c = search needs
 
 pub quota-spec : {M : Type 1} → statement M
-quota-spec =
-    tie.close
-    (tie.spec
-    sub-scale
-    cast-scale
-    remaining-requires
-    cast-share
-    mul-share
-    floor-div-requires
-    cast-result
-    returns)
+quota-spec = tie.close (tie.spec returns share-requires returns-2)

@@ -3,7 +3,7 @@
 //! be activated more than B times in W successive ticks. The same adversaries
 //! on faulty implementations must get above B. Argument, optional: the seed.
 
-use differential::adversary::{hammer, most_in, rave, Plan, ROW};
+use differential::adversary::{hammer, hammer_at_random, most_in, Plan, ROW};
 use differential::call::Call;
 use differential::numbers::Numbers;
 use differential::settings::{bound, seeds, L, N, TD, TRC, W};
@@ -116,7 +116,7 @@ fn most(side: &mut impl Side, setting: &[u64; 9], numbers: &mut Numbers) -> usiz
         }
     }
     for _ in 0..4 {
-        most = most.max(rave(side, setting, numbers, 2_000));
+        most = most.max(hammer_at_random(side, setting, numbers, 2_000));
     }
     most
 }
