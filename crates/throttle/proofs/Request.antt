@@ -13,7 +13,7 @@ use Rattle.rules.specs.declared.Cause.the-variants.{Bank, Rank, Row}
 use Rattle.rules.specs.declared.Answer.{Answer}
 use Rattle.rules.specs.declared.Answer.the-variants.{Opened, Wait, Quota}
 use Rattle.rules.specs.Answers.{Refusal, none, answerNumber}
-use Rattle.rules.specs.Setting.{epochLength, rowBound}
+use Rattle.rules.specs.Setting.{epochLength}
 use Rattle.rules.specs.State.{State, countersUsed, threadsUsed, threadCell}
 use Rattle.rules.specs.Clock.{epoch, activeFilter, turnedCounters, turnedThreads, movedHead, turned}
 use Rattle.rules.specs.Hash.{places}
@@ -21,7 +21,7 @@ use Rattle.rules.specs.Filter.{Within, estimate, blacklisted}
 use Rattle.rules.specs.Quota.{document01, limits01, quotaDown, inFlightHere, indexCounter}
 use Rattle.rules.specs.Decision.{quotaRule, activeEstimate, decide, activated}
 use Rattle.rules.specs.Calls.{Call, request, Reply, answered, Outcome, callRefusal, afterAnswer, requested}
-use Rattle.rules.proofs.Accept.{Accepted, Long, Taken, taken, epoch-long}
+use Rattle.rules.proofs.Accept.{Accepted, Long, Taken, taken, epoch-long, scale-pos}
 use Rattle.rules.proofs.Places.{places-within}
 use Rattle.rules.proofs.Memory.{Memory, memory, taken-memory, turned-long, activated-long, activated-memory}
 use Rattle.rules.proofs.Step.{opened-rules}
@@ -36,24 +36,7 @@ use Rattle.decision.proofs.Views.{decide-view}
 -- ---- what an accepted setting gives
 
 pub bounds : {s : Setting} {seeds : List ℕ} → Accepted limits01 s seeds → Bounds s
-unfolding rowBound
-bounds ok =
-    record {
-      epoch = epoch-long ok;
-      w-high = ok .ranges .w-high;
-      trc = ok .ranges .trc-high;
-      tfaw-low = ok .ranges .tfaw-low;
-      tfaw = ok .ranges .tfaw-high;
-      td = ok .ranges .td-high;
-      delay = ok .delay;
-      n = ok .ranges .n-high;
-      scale = omega (arith, ok .bound);
-      l = ok .ranges .l-high;
-      q = ok .ranges .q-high;
-      banks = ok .ranges .banks-high;
-      threads = ok .ranges .threads-high;
-      history = ok .short;
-    }
+bounds ok = record { ranges = ok .ranges; epoch = epoch-long ok; delay = ok .delay; scale = scale-pos ok; history = ok .short }
 
 -- ---- the clock
 

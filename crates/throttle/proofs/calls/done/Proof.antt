@@ -19,7 +19,7 @@ finish-requires c κs =
     let p = c .before .before .before .before .before .before .before .before .before .before .before .pre in
     let e = c .before .before .before .before .before .before .turn .ensures .2 in
     let kept = turned-flying (a .s) (a .bank) (a .thread) (epoch (a .s) (a .h .last)) (epoch (a .s) (a .tick)) (a .threads .now) in
-    (p .3, p .4, p .0 .banks, p .0 .threads, omega (arith, p .2, c .before .before .before .before .before .before .turn .kept .1 .1 .1 .0), rw e (rw kept (p .5)))
+    (p .3, p .4, p .0 .ranges .banks-high, p .0 .ranges .threads-high, omega (arith, p .2, c .before .before .before .before .before .before .turn .kept .1 .1 .1 .0), rw e (rw kept (p .5)))
 
 same-length : tie.Need-same-length
 same-length c = search needs

@@ -68,7 +68,7 @@ decide-requires : tie.Need-decide-requires
 decide-requires c κs =
     let k = bounds (ok (c .before .before .before .before .before .before .before .before .before .before .before .before .before .before .before .before .before .before .before) .setting) in
     let v = view-small (c .before .before .before .before .before .before .before .before .before .before .before .before .before .before .before .before .before .before .before .args .s) (c .before .before .before .before .before .before .before .before .before .before .before .before .before .before .before .before .before .before .before .args .seeds .now) (entry (c .before .before .before .before .before .before .before .before .before .before .before .before .before .before .before .before .before .before .before)) (c .before .before .before .before .before .before .before .before .before .before .before .before .before .before .before .before .before .before .before .args .tick) (c .before .before .before .before .before .before .before .before .before .before .before .before .before .before .before .before .before .before .before .args .bank) (c .before .before .before .before .before .before .before .before .before .before .before .before .before .before .before .before .before .before .before .args .thread) (c .before .before .before .before .before .before .before .before .before .before .before .before .before .before .before .before .before .before .before .args .row) (ok (c .before .before .before .before .before .before .before .before .before .before .before .before .before .before .before .before .before .before .before)) (c .look .result) (view-is (c)) in
-    (k .trc, k .tfaw, v .0, v .1)
+    (k .ranges .trc-high, k .ranges .tfaw-high, v .0, v .1)
 
 answer-number-requires : tie.Need-answer-number-requires
 answer-number-requires c κs = search needs

@@ -42,7 +42,7 @@ delay-end-requires c κs =
     let m = c .first-match .ensures in (
       m .1,
       rw e (p .2),
-      p .0 .td,
+      p .0 .ranges .td-high,
       found-fits (c .before .before .history-length .result) (a .s .td) (a .h .next) (a .ticks .now) (a .rows .now) (c .before .row-word .result) (a .h .last) (rw e (p .1 .inRing)) (c .first-match .result) (m .0) (p .5),
     )
 

@@ -19,7 +19,7 @@ at-entry c = let a = c .before .before .before .before .before .before .before .
 in-cells : (c : tie.After-cell) → (c .cell .result + 3 ≤ 1536) × (c .cell .result + 3 ≤ length (c .before .before .before .before .before .before .before .before .args .threads .now))
 in-cells c =
     let r = c .before .before .before .before .before .before .before .before .pre .0 in
-    let k = cells-small (c .before .before .before .before .before .before .before .before .args .s .banks) (c .before .before .before .before .before .before .before .before .args .s .threads) (r .bounds .banks) (r .bounds .threads) in
+    let k = cells-small (c .before .before .before .before .before .before .before .before .args .s .banks) (c .before .before .before .before .before .before .before .before .args .s .threads) (r .bounds .ranges .banks-high) (r .bounds .ranges .threads-high) in
     (omega (arith, c .cell .ensures .1), omega (arith, c .cell .ensures .1, r .long .threads))
 
 bank-estimate-requires : tie.Need-bank-estimate-requires
@@ -68,7 +68,7 @@ quota-requires c κs = search needs
 delay-requires : tie.Need-delay-requires
 delay-requires c κs =
     let r = c .before .before .before .before .before .before .before .before .before .before .before .before .before .pre .0 in
-    (r .bounds, r .memory, r .long .ticks, r .long .rows, omega (arith, r .bank-in, r .bounds .banks), r .early)
+    (r .bounds, r .memory, r .long .ticks, r .long .rows, omega (arith, r .bank-in, r .bounds .ranges .banks-high), r .early)
 
 cast-t24 : tie.Need-cast-t24
 cast-t24 c = omega (arith, c .before .before .before .before .shared-slice-known6 .given (c .before .before .before .before .before .before .cell .result + 2))
@@ -77,7 +77,9 @@ mul-t26 : tie.Need-mul-t26
 mul-t26 c = search needs
 
 array-read-t33 : tie.Need-array-read-t33
-array-read-t33 c = search needs
+array-read-t33 c =
+    let r = c .before .before .before .before .before .before .before .before .before .before .before .before .before .before .pre .0 in
+    omega (arith, r .bank-in, r .bounds .ranges .banks-high)
 
 array-read-t36 : tie.Need-array-read-t36
 array-read-t36 c = search needs
@@ -92,7 +94,7 @@ mul-t38 : tie.Need-mul-t38
 mul-t38 c =
     let r = c .before .before .before .before .before .before .before .before .before .before .before .before .before .before .pre .0 in
     let e : c .before .before .before .before .before .before .before .before .before .before .before .before .before .before .args .e ≡ c .before .before .before .before .before .before .before .before .before .before .before .before .before .before .args .h .last / (c .before .before .before .before .before .before .before .before .before .before .before .before .before .before .args .s .w / 2) = c .before .before .before .before .before .before .before .before .before .before .before .before .before .before .pre .2 in
-    rw e (omega (arith, end-small (c .before .before .before .before .before .before .before .before .before .before .before .before .before .before .args .h .last) (c .before .before .before .before .before .before .before .before .before .before .before .before .before .before .args .s .w / 2) (omega (arith, r .bounds .w-high)) (r .early)))
+    rw e (omega (arith, end-small (c .before .before .before .before .before .before .before .before .before .before .before .before .before .before .args .h .last) (c .before .before .before .before .before .before .before .before .before .before .before .before .before .before .args .s .w / 2) (omega (arith, r .bounds .ranges .w-high)) (r .early)))
 
 returns : tie.Need-returns
 returns c =

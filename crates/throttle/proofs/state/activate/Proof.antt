@@ -30,7 +30,7 @@ activated-requires : tie.Need-activated-requires
 activated-requires c κs =
     let r = c .before .before .before .before .before .before .before .before .before .before .before .before .before .before .before .before .before .before .before .before .before .before .pre .0 in
     let e = c .before .before .before .before .before .before .before .before .before .before .before .before .before .before .before .before .before .history-length .ensures in
-    (omega (arith, r .bank-in, r .bounds .banks), r .early, rw e (r .memory .inRing))
+    (omega (arith, r .bank-in, r .bounds .ranges .banks-high), r .early, rw e (r .memory .inRing))
 
 same-length : tie.Need-same-length
 same-length c = search needs

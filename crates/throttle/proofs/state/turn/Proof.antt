@@ -21,7 +21,7 @@ epoch-from-requires c κs =
 turn-requires : tie.Need-turn-requires
 turn-requires c κs =
     let b = c .before .before .before .before .before .before .pre .0 in
-    (b .banks, c .before .before .before .before .before .before .pre .1, epoch-small (c .before .before .before .before .before .before .args .h .last) (c .before .before .before .before .before .before .args .s .w / 2) (b .epoch) (omega arith))
+    (b .ranges .banks-high, c .before .before .before .before .before .before .pre .1, epoch-small (c .before .before .before .before .before .before .args .h .last) (c .before .before .before .before .before .before .args .s .w / 2) (b .epoch) (omega arith))
 
 mul-turn : tie.Need-mul-turn
 mul-turn c = search needs
