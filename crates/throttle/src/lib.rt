@@ -19,7 +19,7 @@ mod look;
 mod refusal;
 pub mod sound;
 mod state;
-mod words;
+pub mod words;
 
 // Set-up: clears the head and the used parts of the buffers.
 // It rules out: a set-up that refuses an accepted setting, clears past the used part, or leaves a head cell.
