@@ -1,0 +1,116 @@
+-- The blocks of a log one by one, and the end of the input.
+use mathlib.Core.Path.{_≡_, refl, sym, ap, _∙_}
+use mathlib.Core.List.{List, [], _∷_}
+use mathlib.Core.Bool.{Bool, true, false}
+use Prim.Native.Nat.{ℕ, _+_, _-_, _/_, _%_, _<_}
+use native.Mathlib.Omega.{arith}
+use lib.Dec.{eqb}
+use lib.ListN.{length}
+use borrow.Author.Tests.{eq-eqb, ne-eqb}
+use Rattle.rules.specs.State.{freshHead}
+use Rattle.log.specs.Bytes.{blockAt, blocksFrom}
+use Rattle.log.specs.Verdict.{Verdict, Running, Step, over, on, memory, ended, verdictOf, judgeSound, judgeBlock, judgeBlocks, unread, verdict}
+use Rattle.log.proofs.Steps.{blocks-step}
+use Rattle.checker.specs.declared.Progress.{Progress}
+use Rattle.checker.specs.declared.Report.{Report}
+use Rattle.checker.specs.declared.Report.the-variants.{Refused, Agrees}
+use Rattle.checker.specs.declared.Reading.{Reading}
+use Rattle.checker.specs.Follow.{progressOf, reportOf, Follows}
+use Rattle.checker.specs.Blocks.{readSoFar, Ready, JudgedBlock}
+use Rattle.checker.proofs.Steps.{not-both}
+
+-- ---- before the first block
+
+-- only the progress is looked at
+unread-block : (x : Running) (block : List ℕ) → x .progress ≡ unread .progress → judgeBlock x block ≡ judgeBlock unread block
+unfolding judgeBlock judgeSound unread
+unread-block x block e = rw e
+
+pub unread-blocks : (x : Running) (blocks : List (List ℕ)) (whole : Bool) → x .progress ≡ unread .progress → judgeBlocks unread blocks whole ≡ judgeBlocks x blocks whole
+unfolding judgeBlocks
+unread-blocks x [] whole e = rw e
+unread-blocks x (s ∷ ss) whole e = rw (unread-block x s e)
+
+pub start-ready : (x : Reading) → progressOf (x .progress) ≡ unread .progress → x .head ≡ freshHead
+    → Ready (readSoFar x (memory .counters) (memory .ticks) (memory .rows) (memory .threads))
+unfolding unread memory
+start-ready x e h =
+    let z : x .progress .blocks ≡ 0 = ap (λ p. p .blocks) e in
+    let r : x .progress .records ≡ 0 = ap (λ p. p .records) e in
+    let o : x .progress .opened ≡ 0 = ap (λ p. p .opened) e in
+    record {
+      blocks = omega arith;
+      records = omega arith;
+      opened = omega arith;
+      start = λ _. rw h refl;
+      model = λ k. absurd (omega arith);
+    }
+
+-- ---- block by block
+
+over-verdict : (b : Bool) (r : Report) (x : Running) (y : Step) (f : Running → Verdict) → Follows b r x y → b ≡ true → r ≡ reportOf (verdictOf y f)
+over-verdict b r x (over v) f h e = h .1
+over-verdict b r x (on y) f h e = absurd (not-both b e (h .0))
+
+on-verdict : (b : Bool) (r : Report) (x : Running) (y : Step) (f : Running → Verdict) → Follows b r x y → b ≡ false → verdictOf y f ≡ f x
+on-verdict b r x (over v) f h e = absurd (not-both b (h .0) e)
+on-verdict b r x (on y) f h e = ap f (h .1)
+
+module _ (bytes : List ℕ) (n : ℕ) (whole : Bool) where
+  -- the verdict of all n blocks
+  abbrev pub ofAll : Verdict
+  ofAll = judgeBlocks unread (blocksFrom bytes 0 n) whole
+
+  -- after b blocks: what the rest gives is what all give
+  pub record Through (b : ℕ) (x : Running) : Type 0 where
+    pub rest : ofAll ≡ judgeBlocks x (blocksFrom bytes b (n - b)) whole
+    pub ready : Ready x
+
+  pub through-none : (x : Running) → x .progress ≡ unread .progress → Ready x → Through 0 x
+  through-none x e ok =
+      let z : n - 0 ≡ n = omega arith in
+      record { rest = rw z (unread-blocks x (blocksFrom bytes 0 n) whole e); ready = ok }
+
+  module _ (b : ℕ) (x : Running) (t : Through b x) (more : b < n) (gone : Bool) (report : Report) (z : Running)
+      (j : JudgedBlock (x .progress .blocks) gone report z (judgeBlock x (blockAt bytes b))) where
+    -- the rest, by the step of block b
+    after-one : Running → Verdict
+    after-one y = judgeBlocks y (blocksFrom bytes (b + 1) (n - b - 1)) whole
+
+    by-one : ofAll ≡ verdictOf (judgeBlock x (blockAt bytes b)) after-one
+    unfolding after-one
+    by-one = t .rest ∙ blocks-step x bytes b (n - b) whole (omega arith)
+
+    pub through-more : gone ≡ false → Through (b + 1) z
+    unfolding after-one
+    through-more e =
+        let k : n - (b + 1) ≡ n - b - 1 = omega arith in
+        record { rest = by-one ∙ on-verdict gone report z (judgeBlock x (blockAt bytes b)) after-one (j .follows) e ∙ rw k refl; ready = j .ready e }
+
+    pub through-over : gone ≡ true → report ≡ reportOf ofAll
+    through-over e = over-verdict gone report z (judgeBlock x (blockAt bytes b)) after-one (j .follows) e ∙ ap reportOf (sym by-one)
+
+  pub through-all : (b : ℕ) (x : Running) → Through b x → b ≡ n → ofAll ≡ ended (x .progress) whole
+  unfolding judgeBlocks
+  through-all b x t e =
+      let z : n - b ≡ 0 = omega arith in
+      t .rest ∙ rw z refl
+
+-- the verdict is the one of all whole blocks, and of whether something is left behind them
+pub of-bytes : (bytes : List ℕ) → verdict bytes ≡ ofAll bytes (length bytes / 512) (eqb (length bytes % 512) 0)
+unfolding verdict
+of-bytes bytes = refl
+
+-- ---- the end of the input
+
+pub end-cut : (p : Progress) (whole : Bool) → whole ≡ false → Refused 11 (p .blocks) ≡ reportOf (ended (progressOf p) whole)
+end-cut p true e = absurd (not-both true refl e)
+end-cut p false e = refl
+
+pub end-empty : (p : Progress) (whole : Bool) → whole ≡ true → p .blocks ≡ 0 → Refused 11 0 ≡ reportOf (ended (progressOf p) whole)
+end-empty p true e z = rw (eq-eqb (p .blocks) 0 z)
+end-empty p false e z = absurd (not-both false e refl)
+
+pub end-agrees : (p : Progress) (whole : Bool) → whole ≡ true → (p .blocks ≡ 0 → ⊥) → Agrees (p .records) (p .opened) ≡ reportOf (ended (progressOf p) whole)
+end-agrees p true e n = rw (ne-eqb (p .blocks) 0 n)
+end-agrees p false e n = absurd (not-both false e refl)

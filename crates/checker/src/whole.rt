@@ -1,0 +1,113 @@
+// A whole log in a slice of bytes.
+use crate::Progress;
+use crate::Reading;
+use crate::Report;
+use crate::block::fresh_head;
+use crate::block::judge_block;
+use rules::Setting;
+ghost use mathlib.Core.Path.{_≡_};
+ghost use Prim.Native.Nat.{_+_, _*_, _≤_};
+ghost use lib.ListN.{length};
+ghost use Rattle.log.specs.Bytes.{blockAt};
+ghost use Rattle.log.specs.Verdict.{memory, ended, unread, verdict};
+ghost use Rattle.checker.specs.Follow.{progressOf, reportOf};
+ghost use Rattle.checker.specs.Blocks.{readSoFar, Ready};
+
+// Before the first block, with buffers of zeros: 32,768 counters, 4,096 ticks and rows, 1,536 thread counters. The setting and the seeds
+// are not looked at.
+pub fn start() -> Reading
+    ensures { λ r. ⌜ (progressOf (r .progress) ≡ unread .progress) × Ready (readSoFar r (memory .counters) (memory .ticks) (memory .rows) (memory .threads)) ⌝ }
+{
+    let progress = Progress {
+        blocks: 0,
+        records: 0,
+        opened: 0,
+        last: 0,
+    };
+    let setting = Setting {
+        w: 0,
+        trc: 0,
+        tfaw: 0,
+        n: 0,
+        td: 0,
+        l: 0,
+        q: 0,
+        banks: 0,
+        threads: 0,
+    };
+    let head = fresh_head();
+    Reading {
+        progress,
+        setting,
+        seeds: [0; 64],
+        head,
+    }
+}
+
+// The end of the input, of which nothing is left behind the last whole block, or some bytes are.
+pub fn at_end(p: Progress, whole: bool) -> Report
+    ensures { λ r. ⌜ r ≡ reportOf (ended (progressOf p) whole) ⌝ }
+{
+    if whole {
+        if p.blocks == 0 {
+            return Report::Refused {
+                number: 11,
+                blocks: 0,
+            };
+        }
+        return Report::Agrees {
+            records: p.records,
+            opened: p.opened,
+        };
+    }
+    Report::Refused {
+        number: 11,
+        blocks: p.blocks,
+    }
+}
+
+// Block b of a log.
+fn block_at(bytes: &[u8], b: usize) -> [u8; 512]
+    requires { ⌜ 512 * b + 512 ≤ length (now bytes) ⌝ }
+    ensures { λ r. ⌜ r ≡ blockAt (now (bytes .entry)) b ⌝ }
+{
+    let at = 512 * b;
+    let mut block = [0u8; 512];
+    for i in 0..512 {
+        block[i] = bytes[at + i];
+    }
+    block
+}
+
+// The report of a log, for every list of bytes.
+pub fn judge_log(bytes: &[u8]) -> Report
+    ensures { λ r. ⌜ r ≡ reportOf (verdict (now (bytes .entry))) ⌝ }
+{
+    let mut counters = [0u16; 32768];
+    let mut ticks = [0u64; 4096];
+    let mut rows = [0u32; 4096];
+    let mut threads = [0u32; 1536];
+    let n = bytes.len() / 512;
+    let mut x = start();
+    let mut b: usize = 0;
+    while b < n {
+        let block = block_at(bytes, b);
+        let r = judge_block(
+            x,
+            &mut counters,
+            &mut ticks,
+            &mut rows,
+            &mut threads,
+            &block,
+        );
+        if r.over {
+            let report = r.report;
+            return report;
+        }
+        let next = r.reading;
+        x = next;
+        b += 1;
+    }
+    let p = x.progress;
+    at_end(p, bytes.len() % 512 == 0)
+}
