@@ -1,0 +1,104 @@
+-- The closed form says the right thing of every setting.
+use mathlib.Core.Path.{_≡_, refl, sym, ap, _∙_}
+use mathlib.Core.Logic.{_≢_}
+use mathlib.Core.Bool.{Bool, true, false, cond}
+use Prim.Native.Nat.{ℕ, _-_, _*_, _^_, _≤_, _<_}
+use native.Mathlib.Omega.{arith}
+use native.Mathlib.Nat.{le-refl}
+use lib.Dec.{leb, ltb, eqb}
+use borrow.Author.Tests.{ltb-true, ltb-false, leb-true, leb-false, eqb-true, eqb-false}
+use Rattle.rules.specs.declared.Setting.{Setting}
+use Rattle.rules.specs.Answers.{none, outOfRange, shortWindow, refusalNumber}
+use Rattle.rules.specs.Setting.{rowBound}
+use Rattle.plan.specs.declared.Plan.the-variants.{Between, Nothing}
+use Rattle.plan.specs.Delays.{withDelay, delayRefusal, InRange, Ends, Smallest, Reason, everyDelay, smallestDelay, noDelay, Says}
+use Rattle.plan.specs.Plan as plan
+use Rattle.plan.specs.Plan.{leastDelay, greatestDelay, delaysAbove, delaysOf}
+use Rattle.plan.specs.Claims.{Right, DelayPlaysNoPart}
+use Rattle.plan.proofs.Shape.{Other, other-number, every-one, every-two, neither}
+use Rattle.plan.proofs.Interval.{smallest-low, bounded, unbounded, never-bounded, accepted-delay, inside, accept-between}
+
+-- by cases of a test, with what each case shows
+by-test : {A : Type 0} (P : A → Type 0) (b : Bool) (x y : A) → (b ≡ true → P x) → (b ≡ false → P y) → P (cond b x y)
+by-test P true x y f g = f refl
+by-test P false x y f g = g refl
+
+-- where no delay in range is accepted, none is
+none-at-all : (s : Setting) → ((td : ℕ) → InRange td → delayRefusal s td ≢ none) → (td : ℕ) → delayRefusal s td ≢ none
+none-at-all s f td e = f td (inside s td e .in-range) e
+
+-- where every delay in range gets one refusal
+every : (s : Setting) (number : ℕ) → Reason s number → ((td : ℕ) → InRange td → delayRefusal s td ≢ none) → Says s (Nothing number)
+every s number r f = (none-at-all s f, r)
+
+-- ---- an interval
+
+ends : (s : Setting) → Other s → 2 * s .n < s .l → leastDelay s ≤ greatestDelay s → Ends s (leastDelay s) (greatestDelay s)
+ends s o free h =
+    record {
+      ordered = h;
+      least-accepted = accept-between s (leastDelay s) o free (le-refl (leastDelay s)) h;
+      greatest-accepted = accept-between s (greatestDelay s) o free h (le-refl (greatestDelay s));
+      between = λ td low high. accept-between s td o free low high;
+      below = λ td k e. let i = inside s td e .low in omega arith;
+      above = λ td k e. let i = inside s td e .high in omega arith;
+    }
+
+-- ---- none
+
+empty : (s : Setting) → greatestDelay s < leastDelay s → (td : ℕ) → delayRefusal s td ≢ none
+empty s h td e =
+    let i = inside s td e in
+    let l = i .low in
+    let g = i .high in
+    omega arith
+
+-- no delay in range has B ≤ L
+no-bound : (s : Setting) → Other s → ((td : ℕ) → InRange td → s .l < rowBound (withDelay s td)) → Reason s 5
+no-bound s o f = noDelay refl (λ td h. let k = neither s o td h in (f td h, k .0, k .1))
+
+smallest : (s : Setting) → 2 * s .n < s .l → plan.smallestDelay s ≤ 2 ^ 29 → Smallest s (plan.smallestDelay s)
+smallest s free h =
+    record {
+      in-range = (smallest-low s, h);
+      bounded = bounded s (plan.smallestDelay s) free (le-refl (plan.smallestDelay s));
+      first = λ td h1 k. unbounded s td h1 free k;
+    }
+
+above : (s : Setting) → Other s → 2 * s .n < s .l → Says s (delaysAbove s)
+unfolding delaysAbove
+above s o free =
+    by-test (Says s) (leb (leastDelay s) (greatestDelay s)) (Between (leastDelay s) (greatestDelay s)) _
+    (λ e. ends s o free (leb-true (leastDelay s) (greatestDelay s) e))
+    (λ e.
+    let nothing = empty s (leb-false (leastDelay s) (greatestDelay s) e) in
+    by-test (Says s) (ltb (2 ^ 29) (plan.smallestDelay s)) (Nothing 5) _
+    (λ k.
+    let far = ltb-true (2 ^ 29) (plan.smallestDelay s) k in
+    (nothing, no-bound s o (λ td h. unbounded s td (h .0) free (omega arith))))
+    (λ k. (nothing, smallestDelay (plan.smallestDelay s) (smallest s free (ltb-false (2 ^ 29) (plan.smallestDelay s) k)) refl)))
+
+pub right : Right
+unfolding delaysOf
+right s =
+    let first = refusalNumber (delayRefusal s 1) in
+    by-test (Says s) (eqb first 1) (Nothing 1) _
+    (λ e.
+    let all = every-one s (eqb-true first 1 e) in
+    every s 1 (everyDelay outOfRange refl all) (λ td h z. let k = ap refusalNumber (sym (all td h) ∙ z) in omega arith))
+    (λ e1.
+    by-test (Says s) (eqb first 2) (Nothing 2) _
+    (λ e.
+    let all = every-two s (eqb-true first 2 e) in
+    every s 2 (everyDelay shortWindow refl all) (λ td h z. let k = ap refusalNumber (sym (all td h) ∙ z) in omega arith))
+    (λ e2.
+    let o = other-number s (eqb-false first 1 e1) (eqb-false first 2 e2) in
+    by-test (Says s) (leb (s .l) (2 * s .n)) (Nothing 5) _
+    (λ e.
+    let low = leb-true (s .l) (2 * s .n) e in
+    ((λ td z. let a = accepted-delay s td z .bound in let b = never-bounded s td low in omega arith), no-bound s o (λ td h. never-bounded s td low)))
+    (λ e. above s o (leb-false (s .l) (2 * s .n) e))))
+
+pub delay-plays-no-part : DelayPlaysNoPart
+unfolding delaysOf delaysAbove leastDelay greatestDelay plan.smallestDelay delayRefusal
+delay-plays-no-part s td = refl

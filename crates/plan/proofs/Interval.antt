@@ -1,0 +1,91 @@
+-- The accepted delays are those from the least to the greatest, in the closed form.
+use mathlib.Core.Path.{_∙_}
+use Prim.Native.Nat.{ℕ, _-_, _*_, _^_, _≤_, _<_}
+use native.Mathlib.Omega.{arith}
+use native.Mathlib.Nat.{le-trans, le-max-left, le-max-right, max-le, min-le-left, min-le-right, le-min}
+use Rattle.rules.specs.declared.Setting.{Setting}
+use Rattle.rules.specs.Setting.{epochLength, historyLength, rowBound}
+use Rattle.rules.specs.Quota.{limits01}
+use Rattle.rules.proofs.Accept.{Accepted, accepted}
+use Rattle.plan.specs.Delays.{withDelay, someSeeds, delayRefusal, AcceptedDelay, InRange, Bounded}
+use Rattle.plan.specs.Plan.{smallestDelay, leastDelay, greatestDelay}
+use Rattle.plan.proofs.Numbers.{bound-met, bound-missed, bound-least, history-short, history-limit}
+use Rattle.plan.proofs.Shape.{Other, other-ranges, other-room, any-delay, accept}
+
+-- ---- B ≤ L, from the smallest delay on
+
+pub smallest-low : (s : Setting) → 1 ≤ smallestDelay s
+unfolding smallestDelay
+smallest-low s = omega arith
+
+pub bounded : (s : Setting) (td : ℕ) → 2 * s .n < s .l → smallestDelay s ≤ td → Bounded s td
+unfolding rowBound smallestDelay
+bounded s td h k = bound-met (2 * s .n) (s .l) (s .w - 1 - 2 * s .n * s .trc) td (omega arith) h (omega arith)
+
+pub unbounded : (s : Setting) (td : ℕ) → 1 ≤ td → 2 * s .n < s .l → td < smallestDelay s → s .l < rowBound (withDelay s td)
+unfolding rowBound smallestDelay
+unbounded s td h1 h k = bound-missed (2 * s .n) (s .l) (s .w - 1 - 2 * s .n * s .trc) td h1 h (omega arith)
+
+pub never-bounded : (s : Setting) (td : ℕ) → s .l ≤ 2 * s .n → s .l < rowBound (withDelay s td)
+unfolding rowBound
+never-bounded s td h = omega arith
+
+bound-free : (s : Setting) (td : ℕ) → Bounded s td → 2 * s .n < s .l
+unfolding rowBound
+bound-free s td h = omega arith
+
+bound-smallest : (s : Setting) (td : ℕ) → 1 ≤ td → Bounded s td → smallestDelay s ≤ td
+unfolding rowBound smallestDelay
+bound-smallest s td h1 h =
+    let p = bound-least (2 * s .n) (s .l) (s .w - 1 - 2 * s .n * s .trc) td h1 h in
+    omega arith
+
+-- ---- the greatest delay
+
+pub history-ok : (s : Setting) (td : ℕ) → 1 ≤ s .tfaw → td ≤ 1024 * s .tfaw → historyLength (withDelay s td) ≤ 4096
+unfolding historyLength
+history-ok s td h k = history-short td (s .tfaw) h k
+
+history-most : (s : Setting) (td : ℕ) → 1 ≤ s .tfaw → historyLength (withDelay s td) ≤ 4096 → td ≤ 1024 * s .tfaw
+unfolding historyLength
+history-most s td h k = history-limit td (s .tfaw) h k
+
+-- ---- both directions
+
+pub accepted-delay : (s : Setting) (td : ℕ) → AcceptedDelay s td → Accepted limits01 (withDelay s td) someSeeds
+unfolding delayRefusal
+accepted-delay s td e = accepted limits01 (withDelay s td) someSeeds e
+
+-- what an accepted delay shows
+pub record Inside (s : Setting) (td : ℕ) : Type 0 where
+  pub in-range : InRange td
+  pub free : 2 * s .n < s .l
+  pub low : leastDelay s ≤ td
+  pub high : td ≤ greatestDelay s
+
+pub inside : (s : Setting) (td : ℕ) → AcceptedDelay s td → Inside s td
+unfolding leastDelay greatestDelay
+inside s td e =
+    let a = accepted-delay s td e in
+    let r = a .ranges in
+    record {
+      in-range = (r .td-low, r .td-high);
+      free = bound-free s td (a .bound);
+      low = max-le (a .gaps) (bound-smallest s td (r .td-low) (a .bound));
+      high = le-min (a .delay) (history-most s td (r .tfaw-low) (a .short));
+    }
+
+-- an epoch is at most 2^29 ticks
+greatest-high : (s : Setting) (td : ℕ) → s .w ≤ 2 ^ 30 → td ≤ epochLength s → td ≤ 2 ^ 29
+greatest-high s td h k = omega arith
+
+pub accept-between : (s : Setting) (td : ℕ) → Other s → 2 * s .n < s .l → leastDelay s ≤ td → td ≤ greatestDelay s → AcceptedDelay s td
+unfolding delayRefusal leastDelay greatestDelay
+accept-between s td o free low high =
+    let r = other-ranges s o in
+    let gaps : s .trc ≤ td = le-trans (le-max-left (s .trc) (smallestDelay s)) low in
+    let small : smallestDelay s ≤ td = le-trans (le-max-right (s .trc) (smallestDelay s)) low in
+    let epoch : td ≤ epochLength s = le-trans high (min-le-left (epochLength s) (1024 * s .tfaw)) in
+    let places : td ≤ 1024 * s .tfaw = le-trans high (min-le-right (epochLength s) (1024 * s .tfaw)) in
+    let in-range : InRange td = (le-trans (r .trc-low) gaps, greatest-high s td (r .w-high) epoch) in
+    accept (withDelay s td) (any-delay s td in-range ∙ o .fields) (other-room s o) gaps epoch (history-ok s td (r .tfaw-low) places) (bounded s td free small)

@@ -1,0 +1,100 @@
+-- Only one answer is right: what the answers say of a setting settles them.
+use mathlib.Core.Path.{_≡_, refl, sym, ap, _∙_}
+use mathlib.Core.Logic.{_≢_}
+use mathlib.Core.Bool.{Bool, true, false, _||_}
+use Prim.Native.Nat.{ℕ, _-_, _*_, _≤_, _<_}
+use native.Mathlib.Omega.{arith}
+use native.Mathlib.Nat.{le-refl}
+use lib.Dec.{ltb}
+use borrow.Author.Tests.{ltb-true, ltb-false, le-ltb, lt-ltb}
+use Rattle.rules.specs.declared.Setting.{Setting}
+use Rattle.rules.specs.Answers.{Refusal, outOfRange, shortWindow, aboveLimit, refusalNumber}
+use Rattle.rules.specs.Setting.{epochLength, historyLength, rowBound}
+use Rattle.plan.specs.declared.Plan.the-variants.{Between, Nothing}
+use Rattle.plan.specs.Delays.{withDelay, delayRefusal, InRange, Ends, Smallest, Reason, everyDelay, smallestDelay, noDelay}
+use Rattle.plan.specs.Claims.{OnlyOne}
+use Rattle.plan.proofs.Shape.{Other, other, other-ranges, other-room, other-shape, late, lateOf, one}
+use Rattle.plan.proofs.Interval.{history-ok}
+use Rattle.plan.proofs.Numbers.{epoch-holds}
+
+-- neither is below the other
+neither-below : (a b : ℕ) → (a < b → ⊥) → (b < a → ⊥) → a ≡ b
+neither-below a b f g = go (ltb a b) (ltb b a) refl refl
+  where
+    go : (x y : Bool) → ltb a b ≡ x → ltb b a ≡ y → a ≡ b
+    go true y e k = absurd (f (ltb-true a b e))
+    go false true e k = absurd (g (ltb-true b a k))
+    go false false e k =
+        let p = ltb-false a b e in
+        let q = ltb-false b a k in
+        omega arith
+
+same-ends : (s : Setting) (a b c d : ℕ) → Ends s a b → Ends s c d → Between a b ≡ Between c d
+same-ends s a b c d x y =
+    let p : a ≡ c = neither-below a c (λ h. y .below a h (x .least-accepted)) (λ h. x .below c h (y .least-accepted)) in
+    let q : b ≡ d = neither-below b d (λ h. x .above d h (y .greatest-accepted)) (λ h. y .above b h (x .greatest-accepted)) in
+    cc
+
+-- ---- the refusals
+
+-- the delay tRC is not refused with 3, the delay 1 not with 4, and both have B > L: the refusal that both get is 5
+late-both : (a b : Bool) → late false b true ≡ late a false true → late a false true ≡ aboveLimit
+late-both true true e = absurd (omega (arith, ap refusalNumber e))
+late-both true false e = absurd (omega (arith, ap refusalNumber e))
+late-both false b e = refl
+
+late-trc : (s : Setting) → Other s → s .l < rowBound (withDelay s (s .trc)) → lateOf s (s .trc) ≡ late false (ltb 4096 (historyLength (withDelay s (s .trc)))) true
+late-trc s o h =
+    let r = other-ranges s o in
+    let epoch : s .trc ≤ epochLength s = epoch-holds (s .n) (s .trc) (s .w) (r .n-low) (other-room s o) in
+    simp (le-ltb (s .trc) (s .trc) (le-refl (s .trc)), le-ltb (epochLength s) (s .trc) epoch, lt-ltb (s .l) (rowBound (withDelay s (s .trc))) h)
+
+late-one : (s : Setting) → Other s → s .l < rowBound (withDelay s 1) → lateOf s 1 ≡ late (ltb 1 (s .trc) || ltb (epochLength s) 1) false true
+late-one s o h =
+    let r = other-ranges s o in
+    let places : 1 ≤ 1024 * s .tfaw = let k = r .tfaw-low in omega arith in
+    simp (le-ltb 4096 (historyLength (withDelay s 1)) (history-ok s 1 (r .tfaw-low) places), lt-ltb (s .l) (rowBound (withDelay s 1)) h)
+
+every-five : (s : Setting) (r : Refusal) → ((td : ℕ) → InRange td → delayRefusal s td ≡ r)
+    → ((td : ℕ) → InRange td → (s .l < rowBound (withDelay s td)) × (delayRefusal s td ≢ outOfRange) × (delayRefusal s td ≢ shortWindow))
+    → r ≡ aboveLimit
+every-five s r f g =
+    let o = other s (g 1 one .1) (g 1 one .2) in
+    let k = other-ranges s o in
+    let trc : InRange (s .trc) = (k .trc-low, let h = k .trc-high in omega arith) in
+    let x = sym (f (s .trc) trc) ∙ other-shape s o (s .trc) trc ∙ late-trc s o (g (s .trc) trc .0) in
+    let y = sym (f 1 one) ∙ other-shape s o 1 one ∙ late-one s o (g 1 one .0) in
+    y ∙ late-both (ltb 1 (s .trc) || ltb (epochLength s) 1) (ltb 4096 (historyLength (withDelay s (s .trc)))) (sym x ∙ y)
+
+-- a smallest delay, where there is none
+no-smallest : (s : Setting) (d : ℕ) → Smallest s d → ((td : ℕ) → InRange td → (s .l < rowBound (withDelay s td)) × (delayRefusal s td ≢ outOfRange) × (delayRefusal s td ≢ shortWindow)) → ⊥
+no-smallest s d x g =
+    let a = x .bounded in
+    let b = g d (x .in-range) .0 in
+    omega arith
+
+same-smallest : (s : Setting) (c d : ℕ) → Smallest s c → Smallest s d → c ≡ d
+same-smallest s c d x y = neither-below c d (less s c d x y) (less s d c y x)
+  where
+    less : (s : Setting) (c d : ℕ) → Smallest s c → Smallest s d → c < d → ⊥
+    less s c d x y h =
+        let a = x .bounded in
+        let b = y .first c (x .in-range .0) h in
+        omega arith
+
+same-reason : (s : Setting) (m n : ℕ) → Reason s m → Reason s n → m ≡ n
+same-reason s m n (everyDelay r e f) (everyDelay q k g) = e ∙ ap refusalNumber (sym (f 1 one) ∙ g 1 one) ∙ sym k
+same-reason s m n (everyDelay r e f) (smallestDelay d x k) = e ∙ ap refusalNumber (sym (f d (x .in-range))) ∙ sym k
+same-reason s m n (everyDelay r e f) (noDelay k g) = e ∙ ap refusalNumber (every-five s r f g) ∙ sym k
+same-reason s m n (smallestDelay d x k) (everyDelay r e f) = k ∙ ap refusalNumber (f d (x .in-range)) ∙ sym e
+same-reason s m n (smallestDelay c x k) (smallestDelay d y e) = k ∙ ap (λ (z : ℕ). refusalNumber (delayRefusal s z)) (same-smallest s c d x y) ∙ sym e
+same-reason s m n (smallestDelay d x k) (noDelay e g) = absurd (no-smallest s d x g)
+same-reason s m n (noDelay k g) (everyDelay r e f) = k ∙ ap refusalNumber (sym (every-five s r f g)) ∙ sym e
+same-reason s m n (noDelay k g) (smallestDelay d x e) = absurd (no-smallest s d x g)
+same-reason s m n (noDelay k g) (noDelay e h) = k ∙ sym e
+
+pub only-one : OnlyOne
+only-one s (Between a b) (Between c d) x y = same-ends s a b c d x y
+only-one s (Between a b) (Nothing n) x y = absurd (y .0 a (x .least-accepted))
+only-one s (Nothing m) (Between c d) x y = absurd (x .0 c (y .least-accepted))
+only-one s (Nothing m) (Nothing n) x y = ap Nothing (same-reason s m n (x .1) (y .1))

@@ -1,0 +1,22 @@
+-- The cases about delays, by computation.
+use mathlib.Core.Path.{refl}
+use Rattle.rules.specs.Setting.{historyLength, rowBound, fieldsInRange, seedsInRange, settingRefusal}
+use Rattle.plan.specs.Delays.{delayRefusal}
+use Rattle.plan.specs.Plan.{smallestDelay, leastDelay, greatestDelay, delaysAbove, delaysOf}
+use Rattle.plan.specs.Samples.{Cases}
+
+pub cases : Cases
+unfolding historyLength rowBound fieldsInRange seedsInRange settingRefusal delayRefusal smallestDelay leastDelay greatestDelay delaysAbove delaysOf
+cases =
+    record {
+      table-one = refl;
+      one-less = refl;
+      published = refl;
+      below-published = refl;
+      limit8192 = refl;
+      limit4096 = refl;
+      limit2048 = refl;
+      limit2048-last = (refl, refl);
+      limit1788 = (refl, refl);
+      s = refl;
+    }

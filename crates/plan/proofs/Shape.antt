@@ -1,0 +1,152 @@
+-- The refusal of a delay in range: refusals 1 and 2 do not depend on it, and the seeds play no part.
+use mathlib.Core.Path.{_≡_, refl, sym, ap, _∙_}
+use mathlib.Core.Logic.{_≢_}
+use mathlib.Core.Bool.{Bool, true, false, not, _&&_, _||_}
+use Prim.Native.Nat.{ℕ, _-_, _*_, _≤_}
+use native.Mathlib.Omega.{arith}
+use lib.Dec.{ltb}
+use borrow.Author.Tests.{le-leb, le-ltb, ltb-false}
+use Rattle.rules.specs.declared.Setting.{Setting}
+use Rattle.rules.specs.Answers.{Refusal, none, outOfRange, shortWindow, badDelay, longHistory, aboveLimit, refusalNumber, refuse}
+use Rattle.rules.specs.Setting.{epochLength, historyLength, rowBound, fieldsInRange, seedsInRange, settingRefusal}
+use Rattle.rules.specs.Quota.{limits01}
+use Rattle.rules.proofs.Tests.{is-true, and-l, not-not}
+use Rattle.rules.proofs.Accept.{Ranges, ranges, refuse-none}
+use Rattle.plan.specs.Delays.{withDelay, withThreshold, someSeeds, delayRefusal, InRange}
+use Rattle.plan.specs.Claims.{SeedsPlayNoPart}
+
+-- ---- the parts of the refusal
+
+-- the fields other than the delay are in range
+abbrev pub others : Setting → Bool
+others s = fieldsInRange limits01 (withDelay s 1)
+
+-- refusal 2: two bursts do not fit in the window
+abbrev pub crowded : Setting → Bool
+crowded s = ltb (s .w - 1) (2 * s .n * s .trc)
+
+-- refusals 3 to 5
+abbrev pub late : Bool → Bool → Bool → Refusal
+late a b c = refuse a badDelay (refuse b longHistory (refuse c aboveLimit none))
+
+abbrev pub lateOf : Setting → ℕ → Refusal
+lateOf s td =
+    late (ltb td (s .trc) || ltb (epochLength s) td) (ltb 4096 (historyLength (withDelay s td))) (ltb (s .l) (rowBound (withDelay s td)))
+
+seeds-ok : seedsInRange someSeeds ≡ true
+unfolding seedsInRange
+seeds-ok = refl
+
+pub any-delay : (s : Setting) (td : ℕ) → InRange td → fieldsInRange limits01 (withDelay s td) ≡ others s
+unfolding fieldsInRange
+any-delay s td h = simp (le-leb 1 td (h .0), le-leb td 536870912 (h .1))
+
+pub any-threshold : (s : Setting) (n m td : ℕ) → 1 ≤ n → n ≤ m → m ≤ 32768
+    → fieldsInRange limits01 (withDelay (withThreshold s n) td) ≡ fieldsInRange limits01 (withDelay (withThreshold s m) td)
+unfolding fieldsInRange
+any-threshold s n m td h k j =
+    let one : 1 ≤ m = omega arith in
+    let top : n ≤ 32768 = omega arith in
+    simp (le-leb 1 n h, le-leb n 32768 top, le-leb 1 m one, le-leb m 32768 j)
+
+pub shape : (s : Setting) (td : ℕ) → InRange td → delayRefusal s td ≡ refuse (not (others s)) outOfRange (refuse (crowded s) shortWindow (lateOf s td))
+unfolding delayRefusal settingRefusal
+shape s td h = simp (any-delay s td h, seeds-ok, and-true (others s))
+  where
+    and-true : (b : Bool) → (b && true) ≡ b
+    and-true true = refl
+    and-true false = refl
+
+-- ---- which of the first two it is
+
+late-number : (a b c : Bool) → (refusalNumber (late a b c) ≡ 1 → ⊥) × (refusalNumber (late a b c) ≡ 2 → ⊥)
+late-number true b c = (λ e. omega arith, λ e. omega arith)
+late-number false true c = (λ e. omega arith, λ e. omega arith)
+late-number false false true = (λ e. omega arith, λ e. omega arith)
+late-number false false false = (λ e. omega arith, λ e. omega arith)
+
+pub late-of : (s : Setting) (td : ℕ) → (refusalNumber (lateOf s td) ≡ 1 → ⊥) × (refusalNumber (lateOf s td) ≡ 2 → ⊥)
+late-of s td = late-number (ltb td (s .trc) || ltb (epochLength s) td) (ltb 4096 (historyLength (withDelay s td))) (ltb (s .l) (rowBound (withDelay s td)))
+
+-- refusal 1 or 2, by its number
+first-one : (f k : Bool) (r : Refusal) → (refusalNumber r ≡ 1 → ⊥) → refusalNumber (refuse (not f) outOfRange (refuse k shortWindow r)) ≡ 1 → f ≡ false
+first-one false k r h e = refl
+first-one true true r h e = absurd (omega arith)
+first-one true false r h e = absurd (h e)
+
+first-two : (f k : Bool) (r : Refusal) → (refusalNumber r ≡ 2 → ⊥) → refusalNumber (refuse (not f) outOfRange (refuse k shortWindow r)) ≡ 2 → (f ≡ true) × (k ≡ true)
+first-two false k r h e = absurd (omega arith)
+first-two true true r h e = (refl, refl)
+first-two true false r h e = absurd (h e)
+
+first-neither : (f k : Bool) (r : Refusal) → (refuse (not f) outOfRange (refuse k shortWindow r) ≢ outOfRange)
+    → (refuse (not f) outOfRange (refuse k shortWindow r) ≢ shortWindow) → (f ≡ true) × (k ≡ false)
+first-neither false k r h1 h2 = absurd (h1 refl)
+first-neither true true r h1 h2 = absurd (h2 refl)
+first-neither true false r h1 h2 = (refl, refl)
+
+pub one : InRange 1
+one = (omega arith, omega arith)
+
+number-at-one : (s : Setting) (k : ℕ) → refusalNumber (delayRefusal s 1) ≡ k → refusalNumber (refuse (not (others s)) outOfRange (refuse (crowded s) shortWindow (lateOf s 1))) ≡ k
+number-at-one s k e = sym (ap refusalNumber (shape s 1 one)) ∙ e
+
+-- the delay 1 is refused with 1: so is every delay in range
+pub every-one : (s : Setting) → refusalNumber (delayRefusal s 1) ≡ 1 → (td : ℕ) → InRange td → delayRefusal s td ≡ outOfRange
+every-one s e td h =
+    shape s td h ∙ simp (first-one (others s) (crowded s) (lateOf s 1) (late-of s 1 .0) (number-at-one s 1 e))
+
+-- the same of 2
+pub every-two : (s : Setting) → refusalNumber (delayRefusal s 1) ≡ 2 → (td : ℕ) → InRange td → delayRefusal s td ≡ shortWindow
+every-two s e td h =
+    let f = first-two (others s) (crowded s) (lateOf s 1) (late-of s 1 .1) (number-at-one s 2 e) in
+    shape s td h ∙ simp (f .0, f .1)
+
+-- ---- a setting that meets neither: what holds of it whatever the delay
+
+pub record Other (s : Setting) : Type 0 where
+  pub fields : others s ≡ true
+  pub free : crowded s ≡ false
+
+pub other : (s : Setting) → delayRefusal s 1 ≢ outOfRange → delayRefusal s 1 ≢ shortWindow → Other s
+other s h1 h2 =
+    let e = shape s 1 one in
+    let f = first-neither (others s) (crowded s) (lateOf s 1) (λ z. h1 (e ∙ z)) (λ z. h2 (e ∙ z)) in
+    record { fields = f .0; free = f .1 }
+
+-- the same, by numbers
+pub other-number : (s : Setting) → (refusalNumber (delayRefusal s 1) ≡ 1 → ⊥) → (refusalNumber (delayRefusal s 1) ≡ 2 → ⊥) → Other s
+other-number s h1 h2 = other s (λ z. h1 (ap refusalNumber z)) (λ z. h2 (ap refusalNumber z))
+
+pub other-ranges : (s : Setting) → Other s → Ranges limits01 (withDelay s 1)
+other-ranges s o = ranges limits01 (withDelay s 1) (rw (o .fields) tt)
+
+pub other-room : (s : Setting) → Other s → 2 * s .n * s .trc ≤ s .w - 1
+other-room s o = ltb-false (s .w - 1) (2 * s .n * s .trc) (o .free)
+
+pub other-shape : (s : Setting) → Other s → (td : ℕ) → InRange td → delayRefusal s td ≡ lateOf s td
+other-shape s o td h = shape s td h ∙ simp (o .fields, o .free)
+
+pub neither : (s : Setting) → Other s → (td : ℕ) → InRange td → (delayRefusal s td ≢ outOfRange) × (delayRefusal s td ≢ shortWindow)
+neither s o td h =
+    let l = late-of s td in
+    let e = sym (other-shape s o td h) in
+    (λ z. l .0 (ap refusalNumber (e ∙ z)), λ z. l .1 (ap refusalNumber (e ∙ z)))
+
+-- ---- accepted settings
+
+pub accept : (x : Setting) → fieldsInRange limits01 x ≡ true → 2 * x .n * x .trc ≤ x .w - 1 → x .trc ≤ x .td → x .td ≤ epochLength x
+    → historyLength x ≤ 4096 → rowBound x ≤ x .l → settingRefusal limits01 x someSeeds ≡ none
+unfolding settingRefusal
+accept x f room gaps delay short bound =
+    simp (f, seeds-ok, le-ltb (x .w - 1) (2 * x .n * x .trc) room, le-ltb (x .td) (x .trc) gaps, le-ltb (epochLength x) (x .td) delay, le-ltb 4096 (historyLength x) short, le-ltb (x .l) (rowBound x) bound)
+
+pub accepted-fields : (x : Setting) → settingRefusal limits01 x someSeeds ≡ none → fieldsInRange limits01 x ≡ true
+unfolding settingRefusal
+accepted-fields x e =
+    let r = refuse-none (not (fieldsInRange limits01 x && seedsInRange someSeeds)) outOfRange _ (omega arith) e in
+    is-true (fieldsInRange limits01 x) (and-l (fieldsInRange limits01 x) (seedsInRange someSeeds) (not-not (fieldsInRange limits01 x && seedsInRange someSeeds) (r .0)))
+
+pub seeds-play-no-part : SeedsPlayNoPart
+unfolding delayRefusal settingRefusal
+seeds-play-no-part s td seeds h = simp (is-true (seedsInRange seeds) h, seeds-ok)

@@ -1,0 +1,20 @@
+-- The statements of `Claims`, all of them.
+use Rattle.plan.specs.Claims.{Theorems}
+use Rattle.plan.proofs.Shape.{seeds-play-no-part}
+use Rattle.plan.proofs.Answer.{right, delay-plays-no-part}
+use Rattle.plan.proofs.Only.{only-one}
+use Rattle.plan.proofs.Trade.{nested, grows, up-to-last, flat, decided}
+
+pub theorems : Theorems
+theorems =
+    record {
+      right = right;
+      onlyOne = only-one;
+      seedsPlayNoPart = seeds-play-no-part;
+      delayPlaysNoPart = delay-plays-no-part;
+      nested = nested;
+      grows = grows;
+      upToLast = up-to-last;
+      flat = flat;
+      decided = decided;
+    }

@@ -1,0 +1,47 @@
+-- `plan::bytes`: the products are small.
+use native.Mathlib.Omega.{arith}
+use Rattle.plan.proofs.Numbers.{cells-small}
+use borrow.Author.Needs.{needs}
+use Rattle.plan.proofs.bytes.Statement.{statement}
+use Rattle.plan.proofs.bytes.Tie as tie
+
+mul-result : tie.Need-mul-result
+mul-result c = search needs
+
+mul-result-2 : tie.Need-mul-result-2
+mul-result-2 c = search needs
+
+mul-result-3 : tie.Need-mul-result-3
+mul-result-3 c = search needs
+
+add-result : tie.Need-add-result
+add-result c = search needs
+
+mul-result-4 : tie.Need-mul-result-4
+mul-result-4 c = omega (arith, cells-small (c .args .banks) (c .args .threads) (search needs) (search needs))
+
+mul-result-5 : tie.Need-mul-result-5
+mul-result-5 c = omega (arith, cells-small (c .args .banks) (c .args .threads) (search needs) (search needs))
+
+mul-result-6 : tie.Need-mul-result-6
+mul-result-6 c = omega (arith, cells-small (c .args .banks) (c .args .threads) (search needs) (search needs))
+
+add-result-2 : tie.Need-add-result-2
+add-result-2 c = omega (arith, cells-small (c .args .banks) (c .args .threads) (search needs) (search needs))
+
+returns : tie.Need-returns
+returns c = search needs
+
+pub bytes-spec : {M : Type 1} → statement M
+bytes-spec =
+    tie.close
+    (tie.spec
+    mul-result
+    mul-result-2
+    mul-result-3
+    add-result
+    mul-result-4
+    mul-result-5
+    mul-result-6
+    add-result-2
+    returns)

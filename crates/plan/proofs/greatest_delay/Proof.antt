@@ -1,0 +1,23 @@
+-- `plan::greatest_delay`: by what `smaller` ensures.
+use Rattle.plan.specs.Plan.{greatestDelay}
+use borrow.Author.Needs.{needs}
+use Rattle.plan.proofs.greatest_delay.Statement.{statement}
+use Rattle.plan.proofs.greatest_delay.Tie as tie
+
+mul-smaller : tie.Need-mul-smaller
+mul-smaller c = search needs
+
+smaller-requires : tie.Need-smaller-requires
+smaller-requires c κs = search needs
+
+returns : tie.Need-returns
+unfolding greatestDelay
+returns c = c .smaller .ensures
+
+pub greatest-delay-spec : {M : Type 1} → statement M
+greatest-delay-spec =
+    tie.close
+    (tie.spec
+    mul-smaller
+    smaller-requires
+    returns)

@@ -1,0 +1,61 @@
+// The words of the command line as numbers.
+ghost use mathlib.Core.Path.{_≡_};
+ghost use Rattle.plan_settings.specs.Decimal.{numberOf};
+ghost use Rattle.plan_settings.specs.Decimal.{wrong as Decimal·wrong};
+
+// A number, or no number where ok is false.
+pub struct Number {
+    pub ok: bool,
+    pub value: u64,
+}
+
+fn wrong() -> Number
+    ensures { λ r. ⌜ r ≡ Decimal·wrong ⌝ }
+{
+    Number {
+        ok: false,
+        value: 0,
+    }
+}
+
+fn wide(x: u8) -> u64
+    ensures { λ r. ⌜ r ≡ x ⌝ }
+{
+    x as u64
+}
+
+// The number that the word stands for.
+fn read_word(word: &[u8]) -> Number
+    ensures { λ r. ⌜ r ≡ numberOf (now (word .entry)) ⌝ }
+{
+    if word.len() == 0 {
+        return wrong();
+    }
+    let mut v: u64 = 0;
+    let mut i: usize = 0;
+    while i < word.len() {
+        let code = wide(word[i]);
+        if code < 48 {
+            return wrong();
+        }
+        if code > 57 {
+            return wrong();
+        }
+        v = 10 * v + (code - 48);
+        if v > 4294967295 {
+            return wrong();
+        }
+        i += 1;
+    }
+    Number { ok: true, value: v }
+}
+
+// The number of argument i. A word of more than 32 bytes, or none at that place, is no number.
+pub fn argument(i: usize) -> Number {
+    let mut word = [0u8; 32];
+    let n = os::arg(i, &mut word);
+    if os::errno() != 0 {
+        return wrong();
+    }
+    read_word(&word[..n])
+}

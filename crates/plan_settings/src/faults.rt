@@ -1,0 +1,71 @@
+// What is wrong with the arguments: messages on standard error. The ranges are those of document 01's table.
+use crate::text::complain;
+
+fn report_usage() {
+    complain(
+        b"usage: plan-settings W TRC TFAW L [N]   whole ticks of a quarter nanosecond; N for one threshold only\n",
+    );
+    complain(b"for example: plan-settings 256000000 185 140 16384\n");
+}
+
+pub fn report_count() {
+    complain(b"plan_settings: four numbers are needed, or five\n");
+    report_usage();
+}
+
+// The name of argument i.
+fn complain_of(i: usize) {
+    complain(b"plan_settings: ");
+    match i {
+        1 => complain(b"W"),
+        2 => complain(b"TRC"),
+        3 => complain(b"TFAW"),
+        4 => complain(b"L"),
+        _ => complain(b"N"),
+    }
+}
+
+pub fn report_word(i: usize) {
+    complain_of(i);
+    complain(b" is not a whole decimal number up to 4294967295\n");
+    report_usage();
+}
+
+// x is from 1 to high; where it is not, that is reported of argument i.
+fn is_within(i: usize, x: u64, high: u64) -> bool {
+    if x < 1 || x > high {
+        complain_of(i);
+        complain(b" must be from 1 to ");
+        io::print_decimal(libc::STDERR_FILENO, high);
+        complain(b"\n");
+        report_usage();
+        return false;
+    }
+    true
+}
+
+fn is_window(w: u64) -> bool {
+    if w < 2 || w > 1073741824 || w % 2 != 0 {
+        complain(b"plan_settings: W must be even and from 2 to 1073741824\n");
+        report_usage();
+        return false;
+    }
+    true
+}
+
+// Every argument is in its range; the first that is not is reported.
+pub fn are_in_range(s: rules::Setting) -> bool {
+    if !is_window(s.w) {
+        return false;
+    }
+    if !is_within(2, s.trc, 65535) {
+        return false;
+    }
+    if !is_within(3, s.tfaw, 65535) {
+        return false;
+    }
+    if !is_within(4, s.l, 16777216) {
+        return false;
+    }
+    is_within(5, s.n, 32768)
+}

@@ -1,0 +1,106 @@
+// The table over thresholds, and the lines below it.
+ghost use Prim.Native.Nat.{_≤_};
+use crate::text::print;
+use crate::text::print_cell;
+use crate::text::print_nanoseconds;
+use crate::text::print_number;
+
+fn print_head(s: rules::Setting) {
+    print(b"W ");
+    print_number(s.w);
+    print(b", tRC ");
+    print_number(s.trc);
+    print(b", tFAW ");
+    print_number(s.tfaw);
+    print(b", L ");
+    print_number(s.l);
+    print(
+        b" (ticks; 4 ticks are a nanosecond); bytes of the four buffers for 16 banks and 8 threads\n",
+    );
+    print(
+        b"           N    least tD    nanoseconds           H           B greatest tD       bytes\n",
+    );
+}
+
+// Why no delay is accepted, by the number of the refusal.
+fn print_reason(refusal: u32) {
+    print(b"refusal ");
+    print_number(refusal as u64);
+    match refusal {
+        1 => print(b": a field is out of its range\n"),
+        2 => print(b": W - 1 is below 2 x N x tRC, two bursts of N do not fit in the window\n"),
+        3 => print(b": the smallest delay with B at most L is below tRC or above W / 2\n"),
+        4 => print(
+            b": the smallest delay with B at most L needs a history of more than 4096 places\n",
+        ),
+        _ => print(b": B is above L with every delay from 1 to 2^29\n"),
+    }
+}
+
+// The line of the setting's threshold.
+fn print_line(s: rules::Setting) {
+    print_cell(s.n);
+    let p = plan::delays(s);
+    match p {
+        plan::Plan::Between { least, greatest } => {
+            let c = plan::costs(s, least);
+            print_cell(least);
+            print_nanoseconds(least);
+            print_cell(c.history);
+            print_cell(c.bound);
+            print_cell(greatest);
+            print_cell(c.bytes);
+            print(b"\n");
+        }
+        plan::Plan::Nothing { refusal } => {
+            print(b" has no delay: ");
+            print_reason(refusal);
+        }
+    }
+}
+
+fn print_threshold(s: rules::Setting, n: u64) {
+    print_line(plan::with_threshold(s, n));
+}
+
+fn print_trade() {
+    print(
+        b"A larger N blacklists fewer well-behaved rows, and needs a delay and a history that are as long or longer.\n",
+    );
+    print(
+        b"Every delay from the least to the greatest is accepted; a longer one never raises B and never shortens the history.\n",
+    );
+}
+
+// The one threshold that is given.
+pub fn print_one(s: rules::Setting) {
+    print_head(s);
+    print_line(s);
+    print_trade();
+}
+
+// The powers of two below the last threshold that has a delay.
+fn print_powers(s: rules::Setting, last: u64)
+    requires { ⌜ last ≤ 32768 ⌝ }
+{
+    let mut n: u64 = 1;
+    while n < last {
+        print_threshold(s, n);
+        n = 2 * n;
+    }
+}
+
+// The powers of two, the last threshold that has a delay, and the one after it, which has none.
+pub fn print_table(s: rules::Setting) {
+    print_head(s);
+    let last = plan::last_threshold(s);
+    print_powers(s, last);
+    if last > 0 {
+        print_threshold(s, last);
+    }
+    if last < 32768 {
+        print_threshold(s, last + 1);
+        print(b"             and no larger N has one.\n");
+    }
+    print_trade();
+}

@@ -1,0 +1,164 @@
+/*
+ * throttle_delays against brute force: the refusals of document 01, written out
+ * one by one, are tried on every delay from 1 on. A delay above W is above W/2
+ * and has B = 2N + 1, so trying up to W + 1 settles what every longer delay in
+ * range gets.
+ */
+#include <inttypes.h>
+#include <stdio.h>
+#include <stdlib.h>
+
+#include "throttle.h"
+#include "throttle_plan.h"
+
+static const uint64_t most_delay = 1u << 29;
+static uint64_t tried, by_code[6];
+
+static int between(uint64_t low, uint64_t high, uint64_t x) { return low <= x && x <= high; }
+
+static uint64_t bound(const struct throttle_setting *s)
+{
+    uint64_t used = 2 * s->n * s->trc;
+    uint64_t rest = s->w - 1 > used ? s->w - 1 - used : 0;
+    return 2 * s->n + 1 + rest / s->td;
+}
+
+/* Refusals 1 to 5 in their order. */
+static uint32_t refusal(const struct throttle_setting *s)
+{
+    if (!between(2, 1u << 30, s->w) || s->w % 2 != 0 || !between(1, 65535, s->trc) ||
+        !between(1, 65535, s->tfaw) || !between(1, 32768, s->n) || !between(1, most_delay, s->td) ||
+        !between(1, 1u << 24, s->l) || !between(1, 255, s->q) || !between(1, 16, s->banks) ||
+        !between(1, 32, s->threads))
+        return 1;
+    if (s->w - 1 < 2 * s->n * s->trc) return 2;
+    if (s->td < s->trc || s->td > s->w / 2) return 3;
+    if (4 * ((s->td + s->tfaw - 1) / s->tfaw) > 4096) return 4;
+    if (bound(s) > s->l) return 5;
+    return 0;
+}
+
+static void fail(const struct throttle_setting *s, const char *what, uint64_t got, uint64_t wanted)
+{
+    printf("plan: W %" PRIu64 " tRC %" PRIu64 " tFAW %" PRIu64 " N %" PRIu64 " L %" PRIu64
+           ": %s is %" PRIu64 ", by brute force %" PRIu64 "\n",
+           s->w, s->trc, s->tfaw, s->n, s->l, what, got, wanted);
+    exit(1);
+}
+
+static void same(const struct throttle_setting *s, const char *what, uint64_t got, uint64_t wanted)
+{
+    if (got != wanted) fail(s, what, got, wanted);
+}
+
+/* Compares the answer for s with what trying every delay gives. */
+static void try_setting(struct throttle_setting s)
+{
+    uint64_t words[9], out[2] = {111, 222};
+    uint32_t code = throttle_delays(throttle_words(&s, words), out);
+    uint64_t least = 0, greatest = 0, accepted = 0;
+    uint32_t first = 0, smallest = 5;
+    int has_smallest = 0;
+    for (s.td = 1; s.td <= s.w + 1 && s.td <= most_delay; s.td++) {
+        uint32_t r = refusal(&s);
+        if (s.td == 1) first = r;
+        if (r == 0) {
+            if (accepted == 0) least = s.td;
+            greatest = s.td;
+            accepted++;
+        }
+        if (!has_smallest && bound(&s) <= s.l) {
+            has_smallest = 1;
+            smallest = r;
+        }
+    }
+    uint32_t wanted = accepted > 0 ? 0 : first == 1 || first == 2 ? first : smallest;
+    same(&s, "the code", code, wanted);
+    if (wanted == 0) {
+        same(&s, "the number of accepted delays", out[1] - out[0] + 1, accepted);
+        same(&s, "the least delay", out[0], least);
+        same(&s, "the greatest delay", out[1], greatest);
+    } else {
+        same(&s, "out[0] of a refusal", out[0], 111);
+        same(&s, "out[1] of a refusal", out[1], 222);
+    }
+    tried++;
+    by_code[wanted]++;
+}
+
+/* One setting, its answer given. */
+static void expect(struct throttle_setting s, uint32_t code, uint64_t least, uint64_t greatest)
+{
+    uint64_t words[9], out[2] = {0, 0};
+    same(&s, "the code", throttle_delays(throttle_words(&s, words), out), code);
+    same(&s, "the least delay", out[0], least);
+    same(&s, "the greatest delay", out[1], greatest);
+}
+
+static struct throttle_setting small(uint64_t w, uint64_t trc, uint64_t tfaw, uint64_t n, uint64_t l)
+{
+    struct throttle_setting s = {w, trc, tfaw, n, 0, l, 4, 16, 8};
+    return s;
+}
+
+/* Document 01: tD 31,065 is the least for N 4,096 and L 16,384, and 31,064 is refused with 5. */
+static void document_cases(void)
+{
+    struct throttle_setting s = small(256000000, 185, 140, 4096, 16384);
+    expect(s, 0, 31065, 143360);
+    s.td = 31065;
+    same(&s, "the refusal of 31,065", refusal(&s), 0);
+    s.td = 31064;
+    same(&s, "the refusal of 31,064", refusal(&s), 5);
+    expect(small(256000000, 185, 140, 8192, 16384), 5, 0, 0);
+    expect(small(256000000, 185, 140, 512, 2048), 4, 0, 0);
+    expect(small(40, 1, 4, 2, 10), 0, 6, 20);
+    /* the smallest delay with B <= L is above 2^29 */
+    expect(small(1u << 30, 1, 1, 1, 3), 5, 0, 0);
+}
+
+/* Each field other than the delay at, below and above its bounds. */
+static void bounds(void)
+{
+    static const uint64_t high[9] = {1u << 30, 65535, 65535, 32768, 0, 1u << 24, 255, 16, 32};
+    for (int i = 0; i < 9; i++) {
+        if (i == 4) continue;
+        for (int k = 0; k < 3; k++) {
+            uint64_t words[9] = {2000, 1, 4, 2, 0, 16, 4, 16, 8}, out[2] = {111, 222};
+            words[i] = k == 0 ? 0 : k == 1 ? high[i] + 2 : UINT64_MAX;
+            struct throttle_setting s = small(words[0], words[1], words[2], words[3], words[5]);
+            same(&s, "the code of a field out of range", throttle_delays(words, out), 1);
+            same(&s, "out[0] of a refusal", out[0], 111);
+            same(&s, "out[1] of a refusal", out[1], 222);
+        }
+    }
+}
+
+int main(void)
+{
+    document_cases();
+    bounds();
+    for (uint64_t w = 1; w <= 26; w++)
+        for (uint64_t trc = 0; trc <= 6; trc++)
+            for (uint64_t tfaw = 0; tfaw <= 2; tfaw++)
+                for (uint64_t n = 0; n <= 6; n++)
+                    for (uint64_t l = 0; l <= 20; l++) try_setting(small(w, trc, tfaw, n, l));
+    /* longer windows, where the history limit counts */
+    uint64_t x = 1;
+    for (int i = 0; i < 20000; i++) {
+        uint64_t r[5];
+        for (int k = 0; k < 5; k++) {
+            x = x * 6364136223846793005u + 1442695040888963407u;
+            r[k] = x >> 33;
+        }
+        uint64_t trc = r[1] % 8 == 0 ? 1000 + r[1] % 100 : 1 + r[1] % 40;
+        try_setting(small(2 + 2 * (r[0] % 6000), trc, 1 + r[2] % 3, 1 + r[3] % 12, 1 + r[4] % 60));
+    }
+    printf("plan: %" PRIu64 " settings agree with brute force; accepted %" PRIu64, tried, by_code[0]);
+    for (int code = 1; code <= 5; code++) {
+        printf(", refused with %d %" PRIu64, code, by_code[code]);
+        if (by_code[code] == 0) return 1;
+    }
+    printf("\n");
+    return 0;
+}
