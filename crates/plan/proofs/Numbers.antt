@@ -3,7 +3,7 @@ use mathlib.Core.Path.{_≡_, refl, sym, subst}
 use mathlib.Core.Bool.{Bool, true, false}
 use Prim.Native.Nat.{ℕ, _+_, _-_, _*_, _/_, _≤_, _<_}
 use native.Mathlib.Omega.{arith}
-use native.Mathlib.Nat.{mul-comm, mul-le-mul, mul-add, add-mul, one-mul, mul-sub, mul-le-mul-left, mul-le-mul-right, div-lt-iff-lt-mul, le-div-iff-mul-le, lt-div-mul-add}
+use native.Mathlib.Nat.{mul-comm, mul-le-mul, mul-add, add-mul, one-mul, mul-sub, mul-le-mul-left, mul-le-mul-right, div-lt-iff-lt-mul, le-div-iff-mul-le, div-mul-le-self, lt-div-mul-add}
 use lib.Dec.{ltb}
 use borrow.Author.Tests.{ltb-true, ltb-false}
 use Rattle.rules.specs.Cells.{ceilDiv}
@@ -97,3 +97,14 @@ epoch-holds n trc w h room =
 -- the products of the buffers' sizes
 pub cells-small : (banks threads : ℕ) → banks ≤ 16 → threads ≤ 32 → banks * threads ≤ 512
 cells-small banks threads h k = mul-le-mul {n₂ = 16} {m₂ = 32} h k
+
+-- ---- a longer delay: B does not grow, H does not shrink
+
+pub quotient-falls : (x a b : ℕ) → 1 ≤ a → a ≤ b → x / b ≤ x / a
+quotient-falls x a b h k =
+    let p : x / b * a ≤ x / b * b = mul-le-mul-left (x / b) k in
+    le-div-iff-mul-le {k = a} {x = x / b} {y = x} h .1 (omega (arith, div-mul-le-self x b))
+
+pub ceil-grows : (a b k : ℕ) → 1 ≤ k → a ≤ b → ceilDiv a k ≤ ceilDiv b k
+ceil-grows a b k h j =
+    le-div-iff-mul-le {k = k} {x = ceilDiv a k} {y = b + (k - 1)} h .1 (omega (arith, div-mul-le-self (a + (k - 1)) k))

@@ -3,7 +3,7 @@ use Rattle.plan.specs.Claims.{Theorems}
 use Rattle.plan.proofs.Shape.{seeds-play-no-part}
 use Rattle.plan.proofs.Answer.{right, delay-plays-no-part}
 use Rattle.plan.proofs.Only.{only-one}
-use Rattle.plan.proofs.Trade.{nested, grows, up-to-last, flat, decided}
+use Rattle.plan.proofs.Trade.{longer-delay, nested, grows, up-to-last, flat, decided}
 
 pub theorems : Theorems
 theorems =
@@ -12,6 +12,7 @@ theorems =
       onlyOne = only-one;
       seedsPlayNoPart = seeds-play-no-part;
       delayPlaysNoPart = delay-plays-no-part;
+      longerDelay = longer-delay;
       nested = nested;
       grows = grows;
       upToLast = up-to-last;

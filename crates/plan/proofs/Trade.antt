@@ -15,11 +15,20 @@ use Rattle.plan.specs.declared.Plan.{Plan}
 use Rattle.plan.specs.declared.Plan.the-variants.{Between, Nothing}
 use Rattle.plan.specs.Delays.{withDelay, withThreshold, someSeeds, delayRefusal, AcceptedDelay, Ends, Says}
 use Rattle.plan.specs.Plan.{smallestDelay, leastDelay, greatestDelay, delaysAbove, delaysOf}
-use Rattle.plan.specs.Claims.{Nested, Grows, UpToLast, Flat, Decided}
-use Rattle.plan.proofs.Numbers.{bound-grows, room-kept, smallest-below, smallest-above}
+use Rattle.plan.specs.Claims.{LongerDelay, Nested, Grows, UpToLast, Flat, Decided}
+use Rattle.plan.proofs.Numbers.{quotient-falls, ceil-grows, bound-grows, room-kept, smallest-below, smallest-above}
 use Rattle.plan.proofs.Shape.{any-threshold, accept, accepted-fields}
 use Rattle.plan.proofs.Interval.{accepted-delay, inside}
 use Rattle.plan.proofs.Answer.{right}
+
+-- ---- a longer delay
+
+pub longer-delay : LongerDelay
+unfolding rowBound historyLength
+longer-delay s a b h k f =
+    let q = quotient-falls (s .w - 1 - 2 * s .n * s .trc) a b h k in
+    let c = ceil-grows a b (s .tfaw) f k in
+    (omega arith, omega arith)
 
 -- ---- accepted delays with a smaller threshold
 

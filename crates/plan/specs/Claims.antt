@@ -4,7 +4,7 @@ use mathlib.Core.List.{List}
 use Prim.Native.Nat.{ℕ, _-_, _*_, _≤_, _<_}
 use lib.Dec.{T}
 use Rattle.rules.specs.declared.Setting.{Setting}
-use Rattle.rules.specs.Setting.{seedsInRange, settingRefusal}
+use Rattle.rules.specs.Setting.{historyLength, rowBound, seedsInRange, settingRefusal}
 use Rattle.rules.specs.Quota.{limits01}
 use Rattle.plan.specs.declared.Plan.{Plan}
 use Rattle.plan.specs.declared.Plan.the-variants.{Between, Nothing}
@@ -27,6 +27,12 @@ SeedsPlayNoPart = (s : Setting) (td : ℕ) (seeds : List ℕ) → T (seedsInRang
 -- .. and the answer does not depend on the delay that stands in the setting.
 abbrev pub DelayPlaysNoPart : Type 0
 DelayPlaysNoPart = (s : Setting) (td : ℕ) → delaysOf (withDelay s td) ≡ delaysOf s
+
+-- A longer delay never raises B and never shortens the history.
+abbrev pub LongerDelay : Type 0
+LongerDelay =
+    (s : Setting) (a b : ℕ) → 1 ≤ a → a ≤ b → 1 ≤ s .tfaw
+    → (rowBound (withDelay s b) ≤ rowBound (withDelay s a)) × (historyLength (withDelay s a) ≤ historyLength (withDelay s b))
 
 -- ---- the trade between N and tD
 
@@ -58,6 +64,7 @@ pub record Theorems : Type 0 where
   pub onlyOne : OnlyOne
   pub seedsPlayNoPart : SeedsPlayNoPart
   pub delayPlaysNoPart : DelayPlaysNoPart
+  pub longerDelay : LongerDelay
   pub nested : Nested
   pub grows : Grows
   pub upToLast : UpToLast
