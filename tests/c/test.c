@@ -298,9 +298,34 @@ static void longer_buffers(void)
     give_back(&m);
 }
 
+/* The delays of the paper's formula in docs/hardware-guide.md, with H and the bound B for each N. */
+static void published(void)
+{
+    static const struct {
+        uint64_t td, history, n, bound;
+    } rows[] = {
+        {31065, 888, 8192, 24528},  {31065, 888, 4096, 16384},  {30800, 880, 4096, 16455},
+        {62315, 1784, 4096, 12276}, {62315, 1784, 2048, 8192},  {124815, 3568, 2048, 6141},
+        {124815, 3568, 1024, 4096}, {15440, 444, 8192, 32768},  {249815, 7140, 512, 2048},
+        {499815, 14284, 256, 1024}, {999815, 28568, 128, 512},
+    };
+    for (size_t i = 0; i < sizeof rows / sizeof *rows; i++) {
+        struct throttle_setting s = {256000000, 185, 140, rows[i].n, rows[i].td, rows[i].bound,
+                                     64,        16,  8};
+        CHECK(throttle_history_cells(&s) == rows[i].history);
+        int too_long = rows[i].history > 4096;
+        struct lent m = lend(&s);
+        CHECK(setup(&m) == (too_long ? THROTTLE_LONG_HISTORY : THROTTLE_ANSWERED));
+        m.words[5]--;
+        CHECK(setup(&m) == (too_long ? THROTTLE_LONG_HISTORY : THROTTLE_ABOVE_LIMIT));
+        give_back(&m);
+    }
+}
+
 int main(void)
 {
     sizes();
+    published();
     samples();
     rank_rule();
     order_of_arguments();

@@ -80,6 +80,7 @@ fn block_at(bytes: &[u8], b: usize) -> [u8; 512]
 }
 
 // The report of a log, for every list of bytes.
+// It rules out: a checker that judges half of the blocks, counts every record as opened, or accepts a log that is cut.
 pub fn judge_log(bytes: &[u8]) -> Report
     ensures { λ r. ⌜ r ≡ reportOf (verdict (now (bytes .entry))) ⌝ }
 {

@@ -7,7 +7,7 @@ ghost use lib.Dec.{T, ltb, eqb};
 ghost use lib.ListN.{length, getD, set};
 ghost use Rattle.rules.specs.Cells.{every, clearCells};
 ghost use Rattle.rules.specs.History.{back, notAfter, neverRises, find};
-ghost use Rattle.history.specs.Runs.{neverFalls};
+ghost use Rattle.history.specs.Runs.{neverFalls, newestIn};
 
 // ---- the test of the stored ticks
 
@@ -64,6 +64,14 @@ fn never_falls(ticks: &[u64], i: usize, n: usize) -> bool
     scan(ticks, i, n)
 }
 
+// The place of the newest activation.
+fn newest_place(h: usize, next: usize) -> usize
+    requires { ⌜ next < h ⌝ }
+    ensures { λ r. ⌜ (r ≡ back h next 0) × (r < h) ⌝ }
+{
+    if next == 0 { h - 1 } else { next - 1 }
+}
+
 // Whether no stored tick is after the last tick, and none rises from the newest place back. One pass is enough: where none
 // rises, the newest tick is the greatest. The cells from `next` on and those before it are two runs, each with its newest
 // cell last; the first cell of the run before `next` follows on the last cell of the other.
@@ -71,7 +79,7 @@ pub fn steady(ticks: &[u64], h: usize, next: usize, last: u64) -> bool
     requires { ⌜ (next < h) × (h ≤ length (now ticks)) ⌝ }
     ensures { λ r. ⌜ r ≡ (every h (λ p. notAfter last (getD (now (ticks .entry)) p 0)) && neverRises h next (now (ticks .entry))) ⌝ }
 {
-    let newest = place_back(h, next, 0);
+    let newest = newest_place(h, next);
     if !is_not_after(ticks[newest], last) {
         return false;
     }
@@ -88,18 +96,6 @@ pub fn steady(ticks: &[u64], h: usize, next: usize, last: u64) -> bool
 
 // ---- the search
 
-// The place i steps back from the newest.
-fn place_back(h: usize, next: usize, i: usize) -> usize
-    requires { ⌜ (next < h) × (i < h) ⌝ }
-    ensures { λ r. ⌜ (r ≡ back h next i) × (r < h) ⌝ }
-{
-    if i < next {
-        next - 1 - i
-    } else {
-        next + (h - 1 - i)
-    }
-}
-
 // The greatest stored tick that is td ticks old or more at tick t; 0, that is an empty place, where no tick is that old.
 fn old_limit(t: u64, td: u64) -> u64
     requires { ⌜ t < 2 ^ 62 ⌝ }
@@ -112,8 +108,38 @@ fn old_limit(t: u64, td: u64) -> u64
     newest - td
 }
 
-// The place of the newest activation of the row that is under td ticks old at tick t, or h. The search is newest first, and
-// ends at the first place that is empty or too old: in a history that does not rise, so is every older one.
+// The newest place from low up to below high that has the row word, or `none`. The search is newest first, and ends at the
+// first place whose stored tick is not above the limit.
+fn newest_in(
+    ticks: &[u64],
+    rows: &[u32],
+    low: usize,
+    high: usize,
+    word: u32,
+    limit: u64,
+    none: usize,
+) -> usize
+    requires { ⌜ (low ≤ high) × (high ≤ length (now ticks)) × (high ≤ length (now rows)) ⌝ }
+    ensures { λ r. ⌜ r ≡ newestIn (now (ticks .entry)) (now (rows .entry)) word limit none low (high - low) ⌝ }
+{
+    let mut p: usize = high;
+    let found = loop {
+        if p == low {
+            break none;
+        }
+        p -= 1;
+        if ticks[p] <= limit {
+            break none;
+        }
+        if rows[p] == word {
+            break p;
+        }
+    };
+    found
+}
+
+// The place of the newest activation of the row that is under td ticks old at tick t, or h: of the places before `next`, else of
+// those from it on. A place that is empty or too old ends the search: in a history that does not rise, so is every older one.
 pub fn first_match(
     ticks: &[u64],
     rows: &[u32],
@@ -127,21 +153,11 @@ pub fn first_match(
     ensures { λ r. ⌜ (r ≡ find h td next (now (ticks .entry)) (now (rows .entry)) word t) × (r ≤ h) ⌝ }
 {
     let limit = old_limit(t, td);
-    let mut i: usize = 0;
-    let found = loop {
-        if i == h {
-            break h;
-        }
-        let p = place_back(h, next, i);
-        if ticks[p] <= limit {
-            break h;
-        }
-        if rows[p] == word {
-            break p;
-        }
-        i += 1;
-    };
-    found
+    let newer = newest_in(ticks, rows, 0, next, word, limit, h);
+    if newer != h {
+        return newer;
+    }
+    newest_in(ticks, rows, next, h, word, limit, h)
 }
 
 // The first tick at which the activation found is td ticks old, 0 where none was found.

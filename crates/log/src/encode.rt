@@ -79,6 +79,7 @@ fn put_record(block: &mut [u8; 512], k: usize, e: Entry)
 }
 
 // Puts a record into a block, at place 0 to 19. 13 for what the format cannot hold.
+// It rules out: a writer that loses the wait tick, and one that cuts a bank to a byte.
 #[no_mangle]
 pub extern "C" fn throttle_log_record(
     block: &mut [u8; 512],
@@ -111,6 +112,7 @@ pub extern "C" fn throttle_log_record(
 
 // Seals a block of records: its number, its record count, zeros after the records, the sums. 13 for a number of 0 or of more
 // than 32 bits, or a count outside 1 to 20.
+// It rules out: a writer that seals 21 records, writes the count for the number, or the first sum twice.
 #[no_mangle]
 pub extern "C" fn throttle_log_seal(block: &mut [u8; 512], number: u64, count: u64) -> u32
     ensures { λ r. ⌜ written r (now (block .exit)) ≡ sealWritten (now (block .entry)) number count ⌝ }
@@ -160,6 +162,7 @@ fn put_seeds(block: &mut [u8; 512], seeds: &[u16])
 }
 
 // Writes block 0. 1 for a field that does not fit 32 bits, or other than 64 seeds; whether the setting is accepted is not asked.
+// It rules out: a writer that numbers the block 1, and one that writes the seeds over the setting.
 #[no_mangle]
 pub extern "C" fn throttle_log_start(
     setting: &[u64; 9],

@@ -22,7 +22,7 @@ mod state;
 pub mod words;
 
 // Set-up: clears the head and the used parts of the buffers.
-// It rules out: a set-up that refuses an accepted setting, clears past the used part, or leaves a head cell.
+// It rules out: a set-up that refuses an accepted setting, clears half of the counters, or leaves stored ticks in the head.
 #[no_mangle]
 pub extern "C" fn throttle_setup(
     setting: &[u64; 9],
@@ -152,7 +152,7 @@ pub extern "C" fn throttle_done(
 }
 
 // The RowHammer likelihood index of a thread in a bank: out gets c, D and the quota.
-// It rules out: an invented index, and one that is read before the epoch has turned.
+// It rules out: an invented index, and one that is filter 0's in every epoch.
 #[no_mangle]
 pub extern "C" fn throttle_index(
     setting: &[u64; 9],
