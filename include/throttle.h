@@ -96,6 +96,12 @@ static inline const uint64_t *throttle_words(const struct throttle_setting *s,
  * No byte of one buffer may lie in another, in the head, in out, in the
  * setting or in the seeds. If one does, nothing is promised.
  *
+ * What is kept of a row: an activation adds 1 to each distinct counter of the
+ * row's four places in both filters of its bank, up to N. Epoch e = tick / E
+ * tests filter e mod 2; a row is blacklisted if its four counters there have
+ * reached N. Where it is when it is activated, both index counters of the
+ * thread in the bank gain 1, up to D = L - N.
+ *
  * The cells, for programs that look at them or save a state:
  *   head[0]         last tick
  *   head[1]         next history place
