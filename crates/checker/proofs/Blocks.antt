@@ -7,8 +7,7 @@ use native.Mathlib.Omega.{arith}
 use borrow.Author.Tests.{eq-eqb, ne-eqb}
 use Rattle.rules.specs.declared.Setting.{Setting}
 use Rattle.rules.specs.declared.Head.{Head}
-use Rattle.rules.specs.State.{State, freshHead}
-use Rattle.throttle.specs.Left.{state}
+use Rattle.rules.specs.State.{State, freshHead, state}
 use Rattle.log.specs.Refusals.{logRefusalNumber}
 use Rattle.log.specs.Contents.{countIn, entriesIn}
 use Rattle.log.specs.Blocks.{blockRefusal}

@@ -13,7 +13,7 @@ ghost use Rattle.rules.specs.Answers.{none};
 ghost use Rattle.rules.specs.Setting.{settingRefusal};
 ghost use Rattle.rules.specs.Quota.{limits01};
 ghost use Rattle.rules.proofs.Sound.{Sound};
-ghost use Rattle.throttle.specs.Left.{state};
+ghost use Rattle.rules.specs.State.{state};
 ghost use Rattle.log.specs.Verdict.{judgeRecord};
 ghost use Rattle.checker.specs.Follow.{running, refusedBy, settled, Room, Judged};
 

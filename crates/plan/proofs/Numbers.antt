@@ -3,7 +3,7 @@ use mathlib.Core.Path.{_≡_, refl, sym, subst}
 use mathlib.Core.Bool.{Bool, true, false}
 use Prim.Native.Nat.{ℕ, _+_, _-_, _*_, _/_, _≤_, _<_}
 use native.Mathlib.Omega.{arith}
-use native.Mathlib.Nat.{mul-comm, mul-le-mul, mul-add, add-mul, one-mul, mul-sub, mul-le-mul-left, mul-le-mul-right, div-lt-iff-lt-mul, le-div-iff-mul-le, div-mul-le-self, lt-div-mul-add}
+use native.Mathlib.Nat.{mul-comm, mul-add, add-mul, one-mul, mul-sub, mul-le-mul-left, mul-le-mul-right, div-lt-iff-lt-mul, le-div-iff-mul-le, div-mul-le-self, lt-div-mul-add}
 use lib.Dec.{ltb}
 use borrow.Author.Tests.{ltb-true, ltb-false}
 use Rattle.rules.specs.Cells.{ceilDiv}
@@ -93,10 +93,6 @@ pub epoch-holds : (n trc w : ℕ) → 1 ≤ n → 2 * n * trc ≤ w - 1 → trc 
 epoch-holds n trc w h room =
     let p : 2 * trc ≤ 2 * n * trc = mul-le-mul-right trc (mul-le-mul-left 2 h) in
     omega arith
-
--- the products of the buffers' sizes
-pub cells-small : (banks threads : ℕ) → banks ≤ 16 → threads ≤ 32 → banks * threads ≤ 512
-cells-small banks threads h k = mul-le-mul {n₂ = 16} {m₂ = 32} h k
 
 -- ---- a longer delay: B does not grow, H does not shrink
 

@@ -4,7 +4,7 @@ use mathlib.Core.List.{List}
 use mathlib.Core.Bool.{Bool, true, false, not, _&&_, _||_}
 use Prim.Native.Nat.{ℕ, zero, suc, _+_, _-_, _*_, _%_, _^_, _≤_, _<_}
 use native.Mathlib.Omega.{arith}
-use native.Mathlib.Nat.{lt-div-mul-add}
+use native.Mathlib.Nat.{lt-div-mul-add, mul-le-mul}
 use lib.Dec.{T, leb, ltb, eqb, leb→le, nltb→le, nleb→lt, eqb→eq}
 use lib.ListN.{length, getD}
 use Rattle.rules.specs.declared.Setting.{Setting}
@@ -223,3 +223,7 @@ unfolding doneRefusal
 done-taken p s seeds st t bank thread e =
     let r = orElse-none (callRefusal p s seeds st t bank thread) _ e in
     (r .0, refuse-none (eqb (getD (st .threads) (threadCell s bank thread 2) 0) 0) noneInFlight none (omega arith) (r .1) .0)
+
+-- the products that a buffer's length is compared with are small
+pub cells-small : (banks threads : ℕ) → banks ≤ 16 → threads ≤ 32 → banks * threads ≤ 512
+cells-small banks threads b t = mul-le-mul {n₂ = 16} {m₂ = 32} b t

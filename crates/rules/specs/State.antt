@@ -17,6 +17,10 @@ pub record State : Type 0 where
   pub rows : List ℕ
   pub threads : List ℕ
 
+-- the state of a head and four buffers
+abbrev pub state : Head → List ℕ → List ℕ → List ℕ → List ℕ → State
+state head counters ticks rows threads = record { head = head; counters = counters; ticks = ticks; rows = rows; threads = threads }
+
 -- The used parts: "banks × 2 × 1,024", H, H and "banks × threads × 3" cells.
 abbrev pub countersUsed : Setting → ℕ
 countersUsed s = s .banks * 2048

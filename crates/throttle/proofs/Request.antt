@@ -14,7 +14,7 @@ use Rattle.rules.specs.declared.Answer.{Answer}
 use Rattle.rules.specs.declared.Answer.the-variants.{Opened, Wait, Quota}
 use Rattle.rules.specs.Answers.{Refusal, none, answerNumber}
 use Rattle.rules.specs.Setting.{epochLength}
-use Rattle.rules.specs.State.{State, countersUsed, threadsUsed, threadCell}
+use Rattle.rules.specs.State.{State, countersUsed, threadsUsed, threadCell, state}
 use Rattle.rules.specs.Clock.{epoch, activeFilter, turnedCounters, turnedThreads, movedHead, turned}
 use Rattle.rules.specs.Hash.{places}
 use Rattle.rules.specs.Filter.{Within, estimate, blacklisted}
@@ -28,9 +28,9 @@ use Rattle.rules.proofs.Step.{opened-rules}
 use Rattle.rules.proofs.Fits.{quota-most}
 use Rattle.rules.proofs.Sound.{Sound}
 use Rattle.decision.specs.declared.View.{View}
-use Rattle.throttle.specs.Left.{state, outcome}
+use Rattle.throttle.specs.Left.{outcome}
 use Rattle.decision.specs.Numbers.{decideFrom, viewOf}
-use Rattle.throttle.specs.Ready.{Bounds, Ready}
+use Rattle.state.specs.Ready.{Bounds, Ready}
 use Rattle.decision.proofs.Views.{decide-view}
 
 -- ---- what an accepted setting gives

@@ -14,15 +14,14 @@ use Rattle.rules.specs.declared.Answer.{Answer}
 use Rattle.rules.specs.Cells.{clearCells}
 use Rattle.rules.specs.Answers.{Refusal, none, refusalNumber, answerNumber, answerWait}
 use Rattle.rules.specs.Setting.{historyLength, indexScale}
-use Rattle.rules.specs.State.{State, countersUsed, threadsUsed, threadCell, headOf, headWords, freshHead, fresh}
+use Rattle.rules.specs.State.{State, countersUsed, threadsUsed, threadCell, headOf, headWords, freshHead, fresh, state}
 use Rattle.rules.specs.Clock.{epoch, activeFilter, clears, turnedCounters, turnedThreads, movedHead, turned}
 use Rattle.rules.specs.Hash.{places}
 use Rattle.rules.specs.Quota.{document01, quotaDown, indexCounter}
 use Rattle.rules.specs.Calls.{Call, request, done, index, Reply, refused, answered, finished, shown, Outcome, setup, setupRefusal, callRefusal, doneRefusal, unlessRefused, requested, reported, indexShown, step}
 use Rattle.rules.proofs.Tests.{and-l, and-r}
 use Rattle.rules.proofs.Clearing.{clear-kept}
-use Rattle.throttle.specs.Left.{Left, left, state, found, outcome, leaves}
-use Rattle.throttle.specs.Left.{oneLess}
+use Rattle.throttle.specs.Left.{Left, left, found, outcome, leaves, oneLess}
 
 -- ---- refused or not
 

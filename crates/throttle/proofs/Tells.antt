@@ -12,7 +12,7 @@ use Rattle.rules.specs.declared.Head.{Head}
 use Rattle.rules.specs.declared.Answer.{Answer}
 use Rattle.rules.specs.Answers.{Refusal, none, shortBuffer, noneInFlight, refusalNumber, refuse, orElse}
 use Rattle.rules.specs.Setting.{settingRefusal}
-use Rattle.rules.specs.State.{State, countersUsed, threadsUsed, threadCell, tooShort}
+use Rattle.rules.specs.State.{State, countersUsed, threadsUsed, threadCell, tooShort, state}
 use Rattle.rules.specs.Clock.{epoch, turnedCounters, turnedThreads, movedHead, turned}
 use Rattle.rules.specs.History.{memoryOk}
 use Rattle.rules.specs.Quota.{limits01, document01}
@@ -21,10 +21,10 @@ use Rattle.rules.proofs.Tests.{is-true}
 use Rattle.rules.proofs.Accept.{Taken, taken, number-none}
 use Rattle.rules.proofs.Memory.{memory-ok, taken-memory, turned-long, reported-long}
 use Rattle.rules.proofs.Sound.{Sound, long-not-short}
-use Rattle.throttle.specs.Left.{state, outcome, oneLess}
-use Rattle.throttle.specs.Tests.{memoryTest, shortTest, placeRefusal}
+use Rattle.throttle.specs.Left.{outcome, oneLess}
+use Rattle.refusal.specs.Tests.{memoryTest, shortTest, placeRefusal}
 use Rattle.throttle.specs.Told.{Told, Over}
-use Rattle.throttle.proofs.Refusals.{setupTest, setup-test, call-place, done-last}
+use Rattle.refusal.proofs.Refusals.{setupTest, setup-test, call-place, done-last}
 use Rattle.throttle.proofs.Settled.{unless-taken, unless-refused}
 
 -- ---- refusals on a state that passed the tests

@@ -4,7 +4,7 @@ use mathlib.Core.List.{List}
 use lib.ListN.{getD, set}
 use Rattle.rules.specs.declared.Setting.{Setting}
 use Rattle.rules.specs.declared.Head.{Head}
-use Rattle.rules.specs.State.{State, threadCell, headOf, headWords}
+use Rattle.rules.specs.State.{State, state, threadCell, headOf, headWords}
 use Rattle.rules.specs.Calls.{Reply, refused, answered, finished, shown, Outcome, returnCode, outWords}
 
 pub record Left : Type 0 where
@@ -19,10 +19,6 @@ pub record Left : Type 0 where
 abbrev pub left : ℕ → List ℕ → List ℕ → List ℕ → List ℕ → List ℕ → List ℕ → Left
 left code out head counters ticks rows threads =
     record { code = code; out = out; head = head; counters = counters; ticks = ticks; rows = rows; threads = threads }
-
--- the state of a head and four buffers
-abbrev pub state : Head → List ℕ → List ℕ → List ℕ → List ℕ → State
-state head counters ticks rows threads = record { head = head; counters = counters; ticks = ticks; rows = rows; threads = threads }
 
 -- the state that a call finds in the caller's memory
 abbrev pub found : List ℕ → List ℕ → List ℕ → List ℕ → List ℕ → State

@@ -1,4 +1,2 @@
 pub mod Left
-pub mod Ready
-pub mod Tests
 pub mod Told

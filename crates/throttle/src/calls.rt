@@ -1,27 +1,26 @@
 // The calls on a state that passed the tests of refusals 1 to 9, for callers in Rattle that own their memory.
 // Each leaves a state that passes the tests of 6 and 7, so that such a caller tests bank, thread and tick only.
-use crate::look::look;
-use crate::state::activate;
-use crate::state::turn;
 use crate::words::answer_number;
 use decision::decide;
 use rules::Answer;
 use rules::Head;
 use rules::Setting;
+use state::activate;
+use state::look::look;
+use state::turn;
 ghost use mathlib.Core.Path.{_≡_};
 ghost use Prim.Native.Nat.{_≤_, _<_};
 ghost use lib.ListN.{length, getD};
 ghost use Rattle.rules.specs.Answers.{none};
 ghost use Rattle.rules.specs.Setting.{indexScale};
-ghost use Rattle.rules.specs.State.{countersUsed, threadsUsed, threadCell};
+ghost use Rattle.rules.specs.State.{countersUsed, threadsUsed, threadCell, state};
 ghost use Rattle.rules.specs.Clock.{epoch, activeFilter, turnedCounters, turnedThreads, movedHead, turned};
 ghost use Rattle.rules.specs.Hash.{places};
 ghost use Rattle.rules.specs.Quota.{document01, quotaDown, indexCounter};
 ghost use Rattle.rules.specs.Calls.{answered, callRefusal, requested};
 ghost use Rattle.rules.proofs.Sound.{Sound};
-ghost use Rattle.throttle.specs.Left.{state, outcome};
-ghost use Rattle.throttle.specs.Ready.{Bounds};
-ghost use Rattle.throttle.specs.Left.{oneLess};
+ghost use Rattle.throttle.specs.Left.{outcome, oneLess};
+ghost use Rattle.state.specs.Ready.{Bounds};
 
 // The answer to a request, with the head after it.
 pub struct Decided {

@@ -1,12 +1,12 @@
 // The throttle: set-up, request, done and index for C, proved against the rules. Every call returns 0 when it answered, and else
 // the number of its refusal; a refused call changes nothing that was lent. Of buffers that overlap nothing is promised.
-use crate::refusal::call_refusal;
-use crate::refusal::done_refusal;
-use crate::refusal::setup_refusal;
 use crate::words::answer_number;
 use crate::words::answer_wait;
 use crate::words::load_head;
 use crate::words::store_head;
+use refusal::call_refusal;
+use refusal::done_refusal;
+use refusal::setup_refusal;
 ghost use mathlib.Core.Path.{_≡_};
 ghost use mathlib.Core.List.{[]};
 ghost use Rattle.rules.specs.Setting.{settingOf};
@@ -15,10 +15,7 @@ ghost use Rattle.rules.specs.Calls.{request, done, index, setup, step};
 ghost use Rattle.throttle.specs.Left.{left, found, leaves};
 
 mod calls;
-mod look;
-mod refusal;
 pub mod sound;
-mod state;
 pub mod words;
 
 // Set-up: clears the head and the used parts of the buffers.

@@ -1,8 +1,8 @@
 // The calls for callers in Rattle that own their memory, such as a log checker: on a state that passed the tests of refusals 1 to 7,
 // which each call keeps. Only bank, thread, tick and what is in flight are tested, so no call reads the whole history.
 use crate::calls;
-use crate::refusal::flying_refusal;
-use crate::refusal::place_refusal;
+use refusal::flying_refusal;
+use refusal::place_refusal;
 use rules::Answer;
 use rules::Head;
 use rules::Setting;
@@ -12,7 +12,7 @@ ghost use Rattle.rules.specs.Setting.{settingRefusal};
 ghost use Rattle.rules.specs.Quota.{limits01, document01};
 ghost use Rattle.rules.specs.Calls.{request, done, step};
 ghost use Rattle.rules.proofs.Sound.{Sound};
-ghost use Rattle.throttle.specs.Left.{state};
+ghost use Rattle.rules.specs.State.{state};
 ghost use Rattle.throttle.specs.Told.{Told, Over};
 
 // What a request gives: 0 and the answer, or the number of a refusal and an answer that says nothing; and the head after it.

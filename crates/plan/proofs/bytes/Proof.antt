@@ -1,6 +1,6 @@
 -- `plan::bytes`: the products are small.
 use native.Mathlib.Omega.{arith}
-use Rattle.plan.proofs.Numbers.{cells-small}
+use Rattle.rules.proofs.Accept.{cells-small}
 use borrow.Author.Needs.{needs}
 use Rattle.plan.proofs.bytes.Statement.{statement}
 use Rattle.plan.proofs.bytes.Tie as tie

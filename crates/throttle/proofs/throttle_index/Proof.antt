@@ -2,12 +2,12 @@
 use mathlib.Core.Path.{_≡_, refl, sym, ap, _∙_}
 use Rattle.rules.specs.Answers.{none, refusalNumber}
 use Rattle.rules.specs.Setting.{settingOf}
-use Rattle.rules.specs.State.{State}
+use Rattle.rules.specs.State.{State, state}
 use Rattle.rules.specs.Clock.{turned}
 use Rattle.rules.specs.Quota.{document01}
 use Rattle.rules.specs.Calls.{callRefusal, indexShown, step}
 use Rattle.rules.proofs.Accept.{Taken, taken, number-none}
-use Rattle.throttle.specs.Left.{state, found}
+use Rattle.throttle.specs.Left.{found}
 use Rattle.throttle.proofs.Request.{bounds}
 use Rattle.throttle.proofs.Settled.{left-refused, left-index}
 use borrow.Author.Needs.{needs}

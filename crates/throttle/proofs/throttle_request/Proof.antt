@@ -4,13 +4,13 @@ use native.Mathlib.Omega.{arith}
 use lib.ListN.{length}
 use Rattle.rules.specs.Answers.{none, refusalNumber}
 use Rattle.rules.specs.Setting.{settingOf}
-use Rattle.rules.specs.State.{State}
+use Rattle.rules.specs.State.{State, state}
 use Rattle.rules.specs.Clock.{turned}
 use Rattle.rules.specs.Hash.{places}
 use Rattle.rules.specs.Quota.{document01}
 use Rattle.rules.specs.Calls.{callRefusal, requested, step}
 use Rattle.rules.proofs.Accept.{number-none}
-use Rattle.throttle.specs.Left.{state, found}
+use Rattle.throttle.specs.Left.{found}
 use Rattle.throttle.proofs.Settled.{left-refused, left-request}
 use borrow.Author.Needs.{needs}
 use Rattle.throttle.proofs.throttle_request.Statement.{statement}

@@ -9,9 +9,9 @@ use Rattle.rules.specs.Setting.{settingOf}
 use Rattle.rules.specs.State.{State, fresh}
 use Rattle.rules.specs.Quota.{document01}
 use Rattle.rules.specs.Calls.{finished, setup, setupRefusal}
-use Rattle.rules.proofs.Accept.{SetUp, set-up, number-none}
+use Rattle.rules.proofs.Accept.{SetUp, set-up, number-none, cells-small}
 use Rattle.throttle.specs.Left.{found, outcome}
-use Rattle.throttle.proofs.Refusals.{setupTest, setup-test, cells-small}
+use Rattle.refusal.proofs.Refusals.{setupTest, setup-test}
 use Rattle.throttle.proofs.Settled.{left-refused, left-setup}
 use borrow.Author.Needs.{needs}
 use Rattle.throttle.proofs.throttle_setup.Statement.{statement}

@@ -1,6 +1,6 @@
 -- `judge_later` judges the records of a block and counts the block.
 use native.Mathlib.Omega.{arith}
-use Rattle.throttle.specs.Left.{state}
+use Rattle.rules.specs.State.{state}
 use Rattle.checker.proofs.Blocks.{later-judged}
 use borrow.Author.Needs.{needs}
 use Rattle.checker.proofs.block.judge_later.Statement.{statement}

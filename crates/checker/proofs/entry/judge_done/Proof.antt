@@ -1,6 +1,5 @@
 -- `judge_done` calls the model; the rules answer 0 and wait for nothing.
-use Rattle.rules.specs.State.{State}
-use Rattle.throttle.specs.Left.{state}
+use Rattle.rules.specs.State.{State, state}
 use Rattle.checker.proofs.Entries.{done-refused, done-settled}
 use borrow.Author.Needs.{needs}
 use Rattle.checker.proofs.entry.judge_done.Statement.{statement}

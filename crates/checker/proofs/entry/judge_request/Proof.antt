@@ -1,6 +1,5 @@
 -- `judge_request` calls the model and compares the answer's number and wait tick.
-use Rattle.rules.specs.State.{State}
-use Rattle.throttle.specs.Left.{state}
+use Rattle.rules.specs.State.{State, state}
 use Rattle.checker.proofs.Entries.{request-refused, request-settled}
 use borrow.Author.Needs.{needs}
 use Rattle.checker.proofs.entry.judge_request.Statement.{statement}

@@ -4,7 +4,7 @@ use mathlib.Core.Path.{_≡_, refl, sym, ap, ap₂, _∙_, subst}
 use native.Mathlib.Omega.{arith}
 use lib.ListN.{length, getD}
 use Rattle.rules.specs.declared.Answer.{Answer}
-use Rattle.rules.specs.State.{State, threadCell}
+use Rattle.rules.specs.State.{State, threadCell, state}
 use Rattle.rules.specs.Clock.{epoch, movedHead, turned}
 use Rattle.rules.specs.Hash.{places}
 use Rattle.rules.specs.Filter.{Within, blacklisted}
@@ -14,9 +14,8 @@ use Rattle.rules.proofs.Accept.{Taken, taken}
 use Rattle.rules.proofs.Tests.{is-true}
 use Rattle.rules.specs.Setting.{seedsInRange}
 use Rattle.rules.proofs.Sound.{Sound}
-use Rattle.throttle.specs.Left.{state}
 use Rattle.decision.specs.Numbers.{viewOf}
-use Rattle.throttle.specs.Ready.{Ready}
+use Rattle.state.specs.Ready.{Ready}
 use Rattle.throttle.proofs.Request.{bounds, turned-parts, ready, within, view-small, decision, black-by-view, few-flying, request-waits, request-opens, moved-sound, activated-sound}
 use borrow.Author.Needs.{needs}
 use Rattle.throttle.proofs.calls.request.Statement.{statement}

@@ -6,14 +6,14 @@ use native.Mathlib.Omega.{arith}
 use lib.Dec.{eqb}
 use lib.ListN.{getD}
 use Rattle.rules.specs.Answers.{Refusal, none, noneInFlight, refusalNumber, refuse}
-use Rattle.rules.specs.State.{State, threadCell}
+use Rattle.rules.specs.State.{State, threadCell, state}
 use Rattle.rules.specs.Clock.{turned}
 use Rattle.rules.specs.Quota.{document01}
 use Rattle.rules.specs.Calls.{finished, callRefusal, doneRefusal, reported, step}
 use Rattle.rules.proofs.Accept.{Taken, taken, done-taken, number-none}
 use Rattle.rules.proofs.Sound.{Sound}
-use Rattle.throttle.specs.Left.{state, outcome}
-use Rattle.throttle.proofs.Refusals.{done-first, done-last}
+use Rattle.throttle.specs.Left.{outcome}
+use Rattle.refusal.proofs.Refusals.{done-first, done-last}
 use Rattle.throttle.proofs.Request.{bounds}
 use Rattle.throttle.proofs.Settled.{some-flying}
 use Rattle.throttle.proofs.Tells.{place-only, over-refused, over-taken, done-parts, done-sound, flying-ten}

@@ -1,13 +1,12 @@
 -- `sound::request` tests bank, thread and tick, and decides.
 use mathlib.Core.Path.{_≡_, refl, sym, ap, _∙_}
 use Rattle.rules.specs.Answers.{refusalNumber}
-use Rattle.rules.specs.State.{State}
+use Rattle.rules.specs.State.{State, state}
 use Rattle.rules.specs.Clock.{turned}
 use Rattle.rules.specs.Hash.{places}
 use Rattle.rules.specs.Quota.{document01}
 use Rattle.rules.specs.Calls.{callRefusal, requested, step}
 use Rattle.rules.proofs.Accept.{number-none}
-use Rattle.throttle.specs.Left.{state}
 use Rattle.throttle.proofs.Tells.{place-only, told-refused, told-taken}
 use borrow.Author.Needs.{needs}
 use Rattle.throttle.proofs.sound.request.Statement.{statement}

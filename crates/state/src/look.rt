@@ -1,0 +1,94 @@
+// What the decision on a request looks at, read from the state.
+use crate::row_word;
+use decision::View;
+use rules::Head;
+use rules::Setting;
+ghost use mathlib.Core.Path.{_≡_};
+ghost use mathlib.Core.Bool.{Bool, _&&_, cond};
+ghost use Prim.Native.Nat.{ℕ, _+_, _*_, _≤_, _<_, _^_};
+ghost use lib.Dec.{ltb};
+ghost use lib.ListN.{length, getD};
+ghost use Rattle.rules.specs.Setting.{historyLength};
+ghost use Rattle.rules.specs.Clock.{epoch};
+ghost use Rattle.rules.specs.Filter.{Within};
+ghost use Rattle.rules.proofs.Memory.{Memory};
+ghost use Rattle.rules.specs.State.{state};
+ghost use Rattle.state.specs.Ready.{Bounds, Ready};
+ghost use Rattle.decision.specs.Numbers.{delayEnd, viewOf};
+
+fn both(a: bool, b: bool) -> bool
+    ensures { λ r. ⌜ r ≡ (a && b) ⌝ }
+{
+    if a { b } else { false }
+}
+
+// The tick from which the history is free of the row. It is looked for only where a filter blacklists the row.
+fn delay(
+    s: Setting,
+    h: Head,
+    ticks: &[u64],
+    rows: &[u32],
+    active: u64,
+    other: u64,
+    bank: u64,
+    row: u16,
+) -> u64
+    requires { ⌜ Bounds s × Memory s h (now ticks) × (historyLength s ≤ length (now ticks)) × (historyLength s ≤ length (now rows)) × (bank < 16) × (h .last < 2 ^ 62) ⌝ }
+    ensures { λ r. ⌜ r ≡ cond (ltb active (s .n) && ltb other (s .n)) 0 (delayEnd s h (now (ticks .entry)) (now (rows .entry)) bank row) ⌝ }
+{
+    if both(active < s.n, other < s.n) {
+        return 0;
+    }
+    let places = setting::history_length(s);
+    let found = history::first_match(
+        ticks,
+        rows,
+        places,
+        h.next as usize,
+        row_word(bank, row),
+        h.last,
+        s.td,
+    );
+    history::delay_end(ticks, found, places, s.td)
+}
+
+// Reads the view of a row; e is the epoch of the last tick.
+pub fn look(
+    s: Setting,
+    h: Head,
+    counters: &[u16],
+    ticks: &[u64],
+    rows: &[u32],
+    threads: &[u32],
+    four: [usize; 4],
+    bank: u64,
+    thread: u64,
+    row: u16,
+    e: u64,
+) -> View
+    requires { ⌜ Ready s (state h (now counters) (now ticks) (now rows) (now threads)) bank thread × Within four × (e ≡ epoch s (h .last)) ⌝ }
+    ensures { λ r. ⌜ r ≡ viewOf s four (state h (now (counters .entry)) (now (ticks .entry)) (now (rows .entry)) (now (threads .entry))) bank thread row ⌝ }
+{
+    let length = s.w / 2;
+    let f = (e % 2) as usize;
+    let b = bank as usize;
+    let active = filter::bank_estimate(counters, b, four, f) as u64;
+    let other = filter::bank_estimate(counters, b, four, 1 - f) as u64;
+    let cell = quota::cell(s, bank, thread);
+    let c = threads[cell + f];
+    let flying = threads[cell + 2];
+    let quota = quota::quota(s, c);
+    let stored = h.bank;
+    let rank = h.rank;
+    let delay = delay(s, h, ticks, rows, active, other, bank, row);
+    View {
+        flying: flying as u64,
+        quota,
+        bank: stored[b],
+        rank: rank[3],
+        active,
+        other,
+        delay,
+        end: (e + 1) * length,
+    }
+}
