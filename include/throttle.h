@@ -1,8 +1,8 @@
 /*
  * The throttle: a model of one rank of DRAM in which no row is activated more
  * than L times in any W successive ticks (the BlockHammer design). A simulator
- * asks before it activates a row; the answer is "activate it now" or "not
- * before tick u".
+ * asks before it activates a row; the answer is "activate it now", "not before
+ * tick u" or "the thread has its quota in flight".
  *
  * The calls work on plain numbers and on memory of the caller. The library
  * keeps no state of its own: it has no variables, allocates nothing and does no
@@ -99,7 +99,7 @@ static inline const uint64_t *throttle_words(const struct throttle_setting *s,
  * What is kept of a row: an activation adds 1 to each distinct counter of the
  * row's four places in both filters of its bank, up to N. Epoch e = tick / E
  * tests filter e mod 2; a row is blacklisted if its four counters there have
- * reached N. Where it is when it is activated, both index counters of the
+ * reached N. If it is so when it is activated, both index counters of the
  * thread in the bank gain 1, up to D = L - N.
  *
  * The cells, for programs that look at them or save a state:
