@@ -1,15 +1,11 @@
 -- The decision from numbers, test by test.
-use Prim.Native.Nat.{ℕ, _+_, _-_, _≤_, _<_, max}
-use mathlib.Core.Path.{_≡_, refl, sym, ap, _∙_, subst}
-use mathlib.Core.Logic.{_⊎_, inl, inr}
-use mathlib.Core.Bool.{Bool, true, false, not, _||_, cond}
+use Prim.Native.Nat.{ℕ, _+_, _-_, max}
+use mathlib.Core.Path.{_≡_, refl, sym}
+use mathlib.Core.Bool.{Bool, true, false, _||_, cond}
 use native.Mathlib.Omega.{arith}
-use lib.Dec.{T, leb, ltb, eqb}
-use borrow.Author.Tests.{lt-ltb, le-ltb, le-leb, lt-leb}
+use lib.Dec.{leb, ltb, eqb}
+use borrow.Author.Tests.{le-leb}
 use Rattle.rules.specs.declared.Setting.{Setting}
-use Rattle.rules.specs.declared.Cause.the-variants.{Bank, Rank, Row}
-use Rattle.rules.specs.declared.Answer.{Answer}
-use Rattle.rules.specs.declared.Answer.the-variants.{Opened, Wait, Quota}
 use Rattle.rules.specs.Decision.{passed, firstFailing}
 use Rattle.rules.specs.Claims.{gapEnd, closedTick}
 use Rattle.decision.specs.declared.View.{View}

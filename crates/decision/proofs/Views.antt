@@ -1,26 +1,25 @@
 -- The decision of the rules is the decision from what the code reads of the state.
-use Prim.Native.Nat.{ℕ, _+_, _-_, _*_, _%_, _≤_, _<_, max}
+use Prim.Native.Nat.{ℕ, _+_, _-_, _*_, _≤_, _<_}
 use mathlib.Core.Path.{_≡_, refl, sym, ap, _∙_, subst}
 use mathlib.Core.List.{List}
 use mathlib.Core.Bool.{Bool, true, false, not, _&&_, _||_, cond}
 use native.Mathlib.Omega.{arith}
 use native.Mathlib.Decide.{decLe}
-use lib.Dec.{T, leb, ltb, eqb, T-not, ltb→lt}
+use lib.Dec.{T, leb, ltb, ltb→lt}
 use borrow.Author.Tests.{lt-ltb, le-ltb, le-leb, lt-leb}
-use lib.ListN.{getD}
 use Rattle.rules.specs.declared.Setting.{Setting}
 use Rattle.rules.specs.Setting.{epochLength, historyLength}
 use Rattle.rules.specs.State.{State, rowWord}
 use Rattle.rules.specs.Clock.{epoch, activeFilter}
-use Rattle.rules.specs.Filter.{Within, estimate, blacklisted}
-use Rattle.rules.specs.History.{rowFree, find}
-use Rattle.rules.specs.Quota.{document01, quotaDown}
-use Rattle.rules.specs.Decision.{passed, quotaRule, bankRule, rankRule, rowRule, waitTick, firstFailing, decide}
+use Rattle.rules.specs.Filter.{Within, estimate}
+use Rattle.rules.specs.History.{rowFree}
+use Rattle.rules.specs.Quota.{document01}
+use Rattle.rules.specs.Decision.{quotaRule, bankRule, rankRule, rowRule, waitTick, firstFailing, decide}
 use Rattle.rules.specs.Claims.{closedTick, closedWait}
-use Rattle.rules.proofs.Tests.{is-true, is-false, same-test}
+use Rattle.rules.proofs.Tests.{is-true, is-false}
 use Rattle.rules.proofs.Memory.{Memory}
 use Rattle.rules.proofs.Wait.{wait-closed}
-use Rattle.rules.proofs.WaitRow.{rowEnd, Delayed, delayed}
+use Rattle.rules.proofs.WaitRow.{Delayed, delayed}
 use Rattle.decision.specs.declared.View.{View}
 use Rattle.decision.specs.Numbers.{gapsEnd, waitFrom, decideFrom, delayEnd, passiveFilter, viewOf}
 

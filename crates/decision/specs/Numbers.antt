@@ -1,7 +1,7 @@
 -- The decision from numbers alone: what the code reads of a state, and what it decides from that.
 use Prim.Native.Nat.{ℕ, _+_, _-_, _*_, _%_, max}
 use mathlib.Core.List.{List}
-use mathlib.Core.Bool.{Bool, _&&_, _||_, cond}
+use mathlib.Core.Bool.{_&&_, _||_, cond}
 use lib.Dec.{ltb, leb, eqb}
 use lib.ListN.{getD}
 use Rattle.rules.specs.declared.Setting.{Setting}
@@ -13,7 +13,7 @@ use Rattle.rules.specs.Clock.{epoch, activeFilter}
 use Rattle.rules.specs.Filter.{estimate}
 use Rattle.rules.specs.History.{find}
 use Rattle.rules.specs.Quota.{quotaDown, inFlightHere, indexCounter}
-use Rattle.rules.specs.Decision.{passed, activeEstimate, firstFailing}
+use Rattle.rules.specs.Decision.{passed, firstFailing}
 use Rattle.rules.specs.Claims.{gapEnd, closedTick}
 use Rattle.decision.specs.declared.View.{View}
 

@@ -3,7 +3,7 @@ use rules::Answer;
 use rules::Cause;
 use rules::Setting;
 ghost use mathlib.Core.Path.{_≡_};
-ghost use Prim.Native.Nat.{ℕ, _+_, _≤_, _<_, _^_, max, min};
+ghost use Prim.Native.Nat.{_+_, _≤_, _<_, _^_, max, min};
 ghost use Rattle.rules.specs.Claims.{gapEnd, closedTick};
 ghost use Rattle.decision.specs.Numbers.{decideFrom};
 

@@ -26,16 +26,16 @@ module _ (ticks rows : List ℕ) (word limit none i : ℕ) where
   abbrev look : ℕ → ℕ
   look n = cond (eqb (getD rows (i + n) 0) word) (i + n) (yield n)
 
-  pub newest-end : (n : ℕ) → getD ticks (i + n) 0 ≤ limit → yield (suc n) ≡ none
+  newest-end : (n : ℕ) → getD ticks (i + n) 0 ≤ limit → yield (suc n) ≡ none
   newest-end n old = cond-yes (leb (getD ticks (i + n) 0) limit) none (look n) (le→leb (getD ticks (i + n) 0) limit old)
 
   young : (n : ℕ) → limit < getD ticks (i + n) 0 → yield (suc n) ≡ look n
   young n new = cond-no (leb (getD ticks (i + n) 0) limit) none (look n) (not-T (leb (getD ticks (i + n) 0) limit) (λ q. omega (arith, leb→le (getD ticks (i + n) 0) limit q)))
 
-  pub newest-hit : (n : ℕ) → limit < getD ticks (i + n) 0 → getD rows (i + n) 0 ≡ word → yield (suc n) ≡ i + n
+  newest-hit : (n : ℕ) → limit < getD ticks (i + n) 0 → getD rows (i + n) 0 ≡ word → yield (suc n) ≡ i + n
   newest-hit n new e = young n new ∙ cond-yes (eqb (getD rows (i + n) 0) word) (i + n) (yield n) (rw e (eqb-refl word))
 
-  pub newest-on : (n : ℕ) → limit < getD ticks (i + n) 0 → getD rows (i + n) 0 ≢ word → yield (suc n) ≡ yield n
+  newest-on : (n : ℕ) → limit < getD ticks (i + n) 0 → getD rows (i + n) 0 ≢ word → yield (suc n) ≡ yield n
   newest-on n new e = young n new ∙ cond-no (eqb (getD rows (i + n) 0) word) (i + n) (yield n) (not-T (eqb (getD rows (i + n) 0) word) (λ q. e (eqb→eq (getD rows (i + n) 0) word q)))
 
   -- the cell q, the newest of those below place p
@@ -82,7 +82,7 @@ module _ (h td p : ℕ) (ticks rows : List ℕ) (word t : ℕ) (ph : p < h) wher
   from i n = findFrom h td p ticks rows word t i n
 
   -- a search that found a place finds it among more places
-  pub more-same : (i m n : ℕ) → from i m ≢ h → from i (m + n) ≡ from i m
+  more-same : (i m n : ℕ) → from i m ≢ h → from i (m + n) ≡ from i m
   more-same i zero n f = absurd (f refl)
   more-same i (suc m) n f =
       let e : suc m + n ≡ suc (m + n) = omega arith in
@@ -95,7 +95,7 @@ module _ (h td p : ℕ) (ticks rows : List ℕ) (word t : ℕ) (ph : p < h) wher
       go false rest g = rest g
 
   -- one that found none goes on with the places after them
-  pub more-on : (i m n : ℕ) → i + m ≤ h → from i m ≡ h → from i (m + n) ≡ from (i + m) n
+  more-on : (i m n : ℕ) → i + m ≤ h → from i m ≡ h → from i (m + n) ≡ from (i + m) n
   more-on i zero n l f =
       let z : 0 + n ≡ n = omega arith in
       let y : i + 0 ≡ i = omega arith in
@@ -139,7 +139,7 @@ module _ (h td p : ℕ) (ticks rows : List ℕ) (word t : ℕ) (ph : p < h) wher
         (λ m. e (match-parts td word t (getD ticks (back h p i) 0) (getD rows (back h p i) 0) m .same))
 
     -- a run whose cells are the places from the i-th newest back
-    pub run-search : (low i n : ℕ) → i + n ≤ h → ((k : ℕ) → k < n → back h p (i + k) ≡ low + (n - 1 - k)) → newestIn ticks rows word limit h low n ≡ from i n
+    run-search : (low i n : ℕ) → i + n ≤ h → ((k : ℕ) → k < n → back h p (i + k) ≡ low + (n - 1 - k)) → newestIn ticks rows word limit h low n ≡ from i n
     run-search low i zero ih at = refl
     run-search low i (suc n) ih at = go (run-search low (suc i) n (omega arith) rest) (decLe (getD ticks (low + n) 0) limit) (ℕ-discrete (getD rows (low + n) 0) word)
       where

@@ -1,89 +1,20 @@
 -- For callers that judge a record by what a call of the model returns: the code, the answer and the wait tick decide the step.
-use mathlib.Core.Path.{_≡_, refl, sym, ap, _∙_}
-use mathlib.Core.Logic.{_⊎_, inl, inr}
-use mathlib.Core.List.{List}
-use mathlib.Core.Bool.{Bool, true, false, _&&_, cond}
-use Prim.Native.Nat.{ℕ, _≤_}
+use mathlib.Core.Path.{_≡_, refl}
+use mathlib.Core.Bool.{_&&_, cond}
+use Prim.Native.Nat.{_≤_}
 use native.Mathlib.Omega.{arith}
 use lib.Dec.{eqb}
-use borrow.Author.Tests.{eq-eqb, ne-eqb, eqb-false}
-use Rattle.rules.specs.declared.Setting.{Setting}
+use borrow.Author.Tests.{eq-eqb, ne-eqb}
 use Rattle.rules.specs.declared.Cause.the-variants.{Bank, Rank, Row}
 use Rattle.rules.specs.declared.Answer.{Answer}
 use Rattle.rules.specs.declared.Answer.the-variants.{Opened, Wait, Quota}
 use Rattle.rules.specs.Answers.{Refusal, refusalNumber, answerNumber, answerWait}
-use Rattle.rules.specs.State.{State}
-use Rattle.rules.specs.Clock.{turned}
-use Rattle.rules.specs.Hash.{places}
-use Rattle.rules.specs.Quota.{document01}
-use Rattle.rules.specs.Calls.{request, done, Reply, refused, answered, finished, shown, Outcome, returnCode, callRefusal, doneRefusal, unlessRefused, requested, reported, step}
+use Rattle.rules.specs.Calls.{request, done, Reply, refused, answered, finished, shown, Outcome, returnCode}
 use Rattle.log.specs.declared.Entry.{Entry}
 use Rattle.log.specs.Refusals.{model}
 use Rattle.log.specs.Contents.{callOf}
 use Rattle.log.specs.Verdict.{refusedAfter, Running, over, on, claims, openedBy, counted, differsHere, judgeReply, judgeRecord}
 use Rattle.log.proofs.Records.{outcomeOf}
-
--- an outcome is refused with a number, or it is the one without a refusal
-unless-cases : (r : Refusal) (st : State) (o : Outcome)
-    → ((unlessRefused r st o .reply ≡ refused r) × (refusalNumber r ≡ 0 → ⊥)) ⊎ (unlessRefused r st o .reply ≡ o .reply)
-unfolding unlessRefused
-unless-cases r st o = go (eqb (refusalNumber r) 0) refl
-  where
-    out : Bool → Outcome
-    out q = cond q o (record { reply = refused r; state = st })
-
-    go : (q : Bool) → eqb (refusalNumber r) 0 ≡ q → ((out q .reply ≡ refused r) × (refusalNumber r ≡ 0 → ⊥)) ⊎ (out q .reply ≡ o .reply)
-    go true e = inr refl
-    go false e = inl (refl, eqb-false (refusalNumber r) 0 e)
-
--- ---- requests
-
-pub request-cases : (s : Setting) (seeds : List ℕ) (st : State) (t b th row : ℕ)
-    → ((r : Refusal) × (step document01 s seeds st (request t b th row) .reply ≡ refused r) × (refusalNumber r ≡ 0 → ⊥))
-    ⊎ ((a : Answer) × (step document01 s seeds st (request t b th row) .reply ≡ answered a))
-unfolding step requested
-request-cases s seeds st t b th row = go (unless-cases r st o)
-  where
-    r : Refusal
-    r = callRefusal document01 s seeds st t b th
-
-    o : Outcome
-    o = requested document01 s (λ f. places seeds row) (turned s st t) b th row
-
-    go : ((unlessRefused r st o .reply ≡ refused r) × (refusalNumber r ≡ 0 → ⊥)) ⊎ (unlessRefused r st o .reply ≡ o .reply)
-        → ((x : Refusal) × (unlessRefused r st o .reply ≡ refused x) × (refusalNumber x ≡ 0 → ⊥)) ⊎ ((a : Answer) × (unlessRefused r st o .reply ≡ answered a))
-    go (inl k) = inl (r, k .0, k .1)
-    go (inr k) = inr (_, k)
-
--- a request that returns 0 is answered
-pub request-answered : (s : Setting) (seeds : List ℕ) (st : State) (t b th row : ℕ) → returnCode (step document01 s seeds st (request t b th row) .reply) ≡ 0
-    → (a : Answer) × (step document01 s seeds st (request t b th row) .reply ≡ answered a)
-request-answered s seeds st t b th row e = go (request-cases s seeds st t b th row)
-  where
-    go : ((r : Refusal) × (step document01 s seeds st (request t b th row) .reply ≡ refused r) × (refusalNumber r ≡ 0 → ⊥))
-        ⊎ ((a : Answer) × (step document01 s seeds st (request t b th row) .reply ≡ answered a))
-        → (a : Answer) × (step document01 s seeds st (request t b th row) .reply ≡ answered a)
-    go (inl k) = absurd (k .2 (sym (ap returnCode (k .1)) ∙ e))
-    go (inr k) = k
-
--- ---- dones
-
--- a done that returns 0 is finished
-pub done-finished : (s : Setting) (seeds : List ℕ) (st : State) (t b th : ℕ) → returnCode (step document01 s seeds st (done t b th) .reply) ≡ 0
-    → step document01 s seeds st (done t b th) .reply ≡ finished
-unfolding step reported
-done-finished s seeds st t b th e = go (unless-cases r st o)
-  where
-    r : Refusal
-    r = doneRefusal document01 s seeds st t b th
-
-    o : Outcome
-    o = reported s (turned s st t) b th
-
-    go : ((unlessRefused r st o .reply ≡ refused r) × (refusalNumber r ≡ 0 → ⊥)) ⊎ (unlessRefused r st o .reply ≡ o .reply)
-        → unlessRefused r st o .reply ≡ finished
-    go (inl k) = absurd (k .1 (sym (ap returnCode (k .0)) ∙ e))
-    go (inr k) = k
 
 -- ---- the step of a record
 

@@ -6,14 +6,12 @@ use Prim.Native.Nat.{ℕ, zero, suc, _+_, _-_, _≤_, _<_}
 use native.Mathlib.Omega.{arith}
 use native.Mathlib.Numerals.{add-one}
 use lib.Dec.{T, eqb, eqb→eq, leb→le}
-use lib.ListN.{getD}
 use borrow.Author.Tests.{ne-eqb}
-use Rattle.rules.specs.Cells.{every}
-use Rattle.rules.proofs.Tests.{and-l, and-r, holds, every-at}
+use Rattle.rules.proofs.Tests.{and-l, and-r, holds}
 use Rattle.log.specs.Bytes.{little, zeros, blockAt, blocksFrom}
 use Rattle.log.specs.Refusals.{LogRefusal, wrongCheck, badContents, sound, logRefusalNumber, refuseLog}
-use Rattle.log.specs.Contents.{countIn, recordAt, entryIn, entriesFrom}
-use Rattle.log.specs.Blocks.{checked, recordLaidOut, recordsLaidOut, inTurn, laidOut, blockRefusal}
+use Rattle.log.specs.Contents.{countIn, entryIn, entriesFrom}
+use Rattle.log.specs.Blocks.{checked, recordsLaidOut, inTurn, laidOut, blockRefusal}
 use Rattle.log.specs.Verdict.{Running, andThen, judgeRecord, judgeRecords, verdictOf, judgeBlock, judgeBlocks}
 
 -- ---- one more record, one more block
@@ -67,13 +65,3 @@ unfolding recordsLaidOut
 later-count s index before h e =
     let t : T (recordsLaidOut s) = later-body s index before h e in
     (leb→le 1 (countIn s) (search (and-l, and-r) depth 20), leb→le (countIn s) 20 (search (and-l, and-r) depth 20))
-
--- each of them a kind of 0 or 1 and an answer of 0 to 4
-pub later-record : (s : List ℕ) (index before k : ℕ) → 1 ≤ index → laidOut s index before ≡ true → k < countIn s
-    → (getD s (recordAt k + 20) 0 ≤ 1) × (getD s (recordAt k + 21) 0 ≤ 4)
-unfolding recordsLaidOut recordLaidOut
-later-record s index before k h e b =
-    let t : T (recordsLaidOut s) = later-body s index before h e in
-    let a : T (every (countIn s) (λ j. recordLaidOut s j)) = search (and-l, and-r) depth 20 in
-    let r : T (recordLaidOut s k) = every-at (countIn s) (λ j. recordLaidOut s j) a k b in
-    (leb→le (getD s (recordAt k + 20) 0) 1 (search (and-l, and-r) depth 20), leb→le (getD s (recordAt k + 21) 0) 4 (search (and-l, and-r) depth 20))

@@ -16,7 +16,7 @@ use Rattle.log.specs.Refusals.{sound}
 use Rattle.log.specs.Contents.{countIn, settingIn, seedsIn, callOf, entriesIn}
 use Rattle.log.specs.Blocks.{blockRefusal}
 use Rattle.log.specs.Verdict.{agrees, judged, memory, verdict}
-use Rattle.log.specs.Encode.{logBytes}
+use Rattle.log.specs.Encode.{written, startBlock, startWritten, putRecord, recordWritten, putRecords, recordsBlock, sealWritten, logBytes}
 
 -- ---- what a log says
 
@@ -122,9 +122,18 @@ WrittenAgrees =
     → All Writable es → length es ≤ 20 * (2 ^ 32 - 1) → Decided es (rulesSay (settingOf setting) seeds es)
     → verdict (logBytes s setting seeds es) ≡ judged (length es) (rulesOpen (settingOf setting) seeds es) agrees
 
+-- The encoder's calls write the blocks of such a log and refuse none of it: block 0 of an accepted setting, a record that the format can
+-- hold, a block of 1 to 20 records under a number of 32 bits.
+pub record CallsWrite : Type 0 where
+  pub start : (s setting seeds : List ℕ) → settingRefusal limits01 (settingOf setting) seeds ≡ none → startWritten s setting seeds ≡ written 0 (startBlock s setting seeds)
+  pub put : (s : List ℕ) (k : ℕ) (e : Entry) → k < 20 → Writable e → recordWritten s k e ≡ written 0 (putRecord s k e)
+  pub seal : (s : List ℕ) (b : ℕ) (es : List Entry) → 1 ≤ b → b < 2 ^ 32 → 1 ≤ length es → length es ≤ 20
+      → sealWritten (putRecords s 0 es) b (length es) ≡ written 0 (recordsBlock s b es)
+
 -- ---- all of it
 
 pub record Theorems : Type 0 where
   pub onlyIf : OnlyIf
   pub whenever : Whenever
   pub writtenAgrees : WrittenAgrees
+  pub callsWrite : CallsWrite

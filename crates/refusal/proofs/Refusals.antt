@@ -1,11 +1,11 @@
 -- The refusals of a call, test by test.
-use Prim.Native.Nat.{ℕ, zero, suc, _+_, _*_, _^_, _≤_, _<_}
+use Prim.Native.Nat.{ℕ, suc, _+_, _≤_, _<_}
 use mathlib.Core.Path.{_≡_, refl, sym, ap, _∙_, subst}
 use mathlib.Core.Logic.{_≢_}
 use mathlib.Core.List.{List}
-use mathlib.Core.Bool.{Bool, true, false, not, _&&_, _||_}
+use mathlib.Core.Bool.{Bool, true, false, not, _&&_}
 use native.Mathlib.Omega.{arith}
-use lib.Dec.{T, leb, ltb, eqb, T-not}
+use lib.Dec.{T, ltb, eqb}
 use borrow.Author.Tests.{le-ltb}
 use lib.ListN.{length, getD}
 use Rattle.rules.specs.declared.Setting.{Setting}
@@ -13,11 +13,11 @@ use Rattle.rules.specs.declared.Head.{Head}
 use Rattle.rules.specs.Cells.{every}
 use Rattle.rules.specs.Answers.{Refusal, none, outOfRange, shortWindow, badDelay, longHistory, aboveLimit, shortBuffer, badMemory, outsideSetting, badTick, noneInFlight, refusalNumber, refuse, orElse}
 use Rattle.rules.specs.Setting.{historyLength, settingRefusal}
-use Rattle.rules.specs.State.{State, countersUsed, threadsUsed, tooShort, threadCell, state}
+use Rattle.rules.specs.State.{State, countersUsed, threadsUsed, tooShort, threadCell}
 use Rattle.rules.specs.History.{notAfter, neverRises, memoryOk}
 use Rattle.rules.specs.Quota.{limits01, document01}
 use Rattle.rules.specs.Calls.{setupRefusal, callRefusal, doneRefusal}
-use Rattle.rules.proofs.Tests.{every-at, every-all, is-false, is-true, holds}
+use Rattle.rules.proofs.Tests.{every-at, every-all, is-false, is-true}
 use Rattle.rules.proofs.Accept.{number-none}
 use Rattle.refusal.specs.Tests.{shortTest, memoryTest, placeRefusal}
 

@@ -1,21 +1,21 @@
 -- A view, a turn and an activation, put together from what the leaves give.
-use Prim.Native.Nat.{ℕ, _+_, _-_, _*_, _/_, _%_, _^_, _≤_, _<_}
-use mathlib.Core.Path.{_≡_, refl, sym, ap, ap₂, _∙_, subst}
+use Prim.Native.Nat.{ℕ, _+_, _-_, _*_, _/_, _^_, _≤_, _<_}
+use mathlib.Core.Path.{_≡_, sym, ap, ap₂, _∙_}
 use mathlib.Core.List.{List}
 use mathlib.Core.Bool.{Bool, true, false, _&&_, cond}
 use native.Mathlib.Omega.{arith}
 use native.Mathlib.Nat.{div-lt-iff-lt-mul, le-div-iff-mul-le, div-mul-le-self}
-use lib.Dec.{T, ltb, eqb}
+use lib.Dec.{ltb, eqb}
 use lib.ListN.{getD, set}
 use Rattle.rules.specs.declared.Setting.{Setting}
 use Rattle.rules.specs.declared.Head.{Head}
 use Rattle.rules.specs.Cells.{every}
 use Rattle.rules.specs.Setting.{epochLength, historyLength}
-use Rattle.rules.specs.State.{State, threadCell, rowWord, state}
+use Rattle.rules.specs.State.{State, threadCell, rowWord}
 use Rattle.rules.specs.Clock.{epoch, activeFilter}
 use Rattle.rules.specs.Filter.{estimate, blacklisted, counted}
 use Rattle.rules.specs.History.{notAfter, neverRises, find}
-use Rattle.rules.specs.Quota.{quotaDown, inFlightHere, indexCounter}
+use Rattle.rules.specs.Quota.{quotaDown, indexCounter}
 use Rattle.rules.specs.Decision.{activeEstimate, activatedHead, activatedThreads, activated}
 use Rattle.rules.proofs.Tests.{is-true, every-all}
 use Rattle.rules.proofs.Memory.{Memory, after-not}

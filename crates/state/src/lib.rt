@@ -2,8 +2,6 @@
 use rules::Head;
 use rules::Setting;
 ghost use mathlib.Core.Path.{_≡_};
-ghost use mathlib.Core.Bool.{Bool};
-ghost use mathlib.Core.List.{List};
 ghost use Prim.Native.Nat.{_*_, _/_, _≤_, _<_};
 ghost use lib.ListN.{length, getD};
 ghost use Rattle.rules.specs.State.{countersUsed, threadsUsed, threadCell, rowWord, state};

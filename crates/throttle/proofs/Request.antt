@@ -1,29 +1,27 @@
 -- A request that is not refused: what its parts give, put together.
-use Prim.Native.Nat.{ℕ, _+_, _*_, _^_, _≤_, _<_}
-use mathlib.Core.Path.{_≡_, refl, sym, ap, _∙_, subst}
+use Prim.Native.Nat.{ℕ, _^_, _≤_, _<_}
+use mathlib.Core.Path.{_≡_, refl, sym, ap, _∙_}
 use mathlib.Core.Logic.{_≢_}
 use mathlib.Core.List.{List}
-use mathlib.Core.Bool.{Bool, true, false}
 use native.Mathlib.Omega.{arith}
-use lib.Dec.{T, leb, ltb, ltb→lt}
-use lib.ListN.{length, getD}
+use lib.Dec.{leb, ltb→lt}
+use lib.ListN.{getD}
 use Rattle.rules.specs.declared.Setting.{Setting}
 use Rattle.rules.specs.declared.Head.{Head}
 use Rattle.rules.specs.declared.Cause.the-variants.{Bank, Rank, Row}
 use Rattle.rules.specs.declared.Answer.{Answer}
 use Rattle.rules.specs.declared.Answer.the-variants.{Opened, Wait, Quota}
-use Rattle.rules.specs.Answers.{Refusal, none, answerNumber}
-use Rattle.rules.specs.Setting.{epochLength}
+use Rattle.rules.specs.Answers.{answerNumber}
 use Rattle.rules.specs.State.{State, countersUsed, threadsUsed, threadCell, state}
 use Rattle.rules.specs.Clock.{epoch, activeFilter, turnedCounters, turnedThreads, movedHead, turned}
 use Rattle.rules.specs.Hash.{places}
-use Rattle.rules.specs.Filter.{Within, estimate, blacklisted}
+use Rattle.rules.specs.Filter.{Within, blacklisted}
 use Rattle.rules.specs.Quota.{document01, limits01, quotaDown, inFlightHere, indexCounter}
-use Rattle.rules.specs.Decision.{quotaRule, activeEstimate, decide, activated}
-use Rattle.rules.specs.Calls.{Call, request, Reply, answered, Outcome, callRefusal, afterAnswer, requested}
-use Rattle.rules.proofs.Accept.{Accepted, Long, Taken, taken, epoch-long, scale-pos}
+use Rattle.rules.specs.Decision.{activeEstimate, decide, activated}
+use Rattle.rules.specs.Calls.{answered, afterAnswer, requested}
+use Rattle.rules.proofs.Accept.{Accepted, Taken, epoch-long, scale-pos}
 use Rattle.rules.proofs.Places.{places-within}
-use Rattle.rules.proofs.Memory.{Memory, memory, taken-memory, turned-long, activated-long, activated-memory}
+use Rattle.rules.proofs.Memory.{memory, taken-memory, turned-long, activated-long, activated-memory}
 use Rattle.rules.proofs.Step.{opened-rules}
 use Rattle.rules.proofs.Fits.{quota-most}
 use Rattle.rules.proofs.Sound.{Sound}

@@ -1,27 +1,27 @@
 -- What an exported call leaves, refused or not.
-use Prim.Native.Nat.{ℕ, zero, suc, _+_, _-_, _%_, _≤_, _<_}
-use mathlib.Core.Path.{_≡_, refl, sym, ap, _∙_, subst}
+use Prim.Native.Nat.{ℕ, zero, suc, _-_, _%_, _≤_}
+use mathlib.Core.Path.{_≡_, sym, ap, _∙_}
 use mathlib.Core.Logic.{_≢_}
-use mathlib.Core.List.{List, [], _∷_, _++_}
-use mathlib.Core.Bool.{Bool, true, false, not, _&&_, cond}
+use mathlib.Core.List.{List, [], _∷_}
+use mathlib.Core.Bool.{Bool, not, _&&_}
 use native.Mathlib.Omega.{arith}
 use lib.Dec.{T, ltb, eqb, not-T, ltb→lt}
 use borrow.Author.Tests.{eq-eqb, ne-eqb}
-use lib.ListN.{length, getD, replicate}
+use lib.ListN.{getD, replicate}
 use Rattle.rules.specs.declared.Setting.{Setting}
 use Rattle.rules.specs.declared.Head.{Head}
 use Rattle.rules.specs.declared.Answer.{Answer}
 use Rattle.rules.specs.Cells.{clearCells}
-use Rattle.rules.specs.Answers.{Refusal, none, refusalNumber, answerNumber, answerWait}
+use Rattle.rules.specs.Answers.{Refusal, refusalNumber, answerNumber, answerWait}
 use Rattle.rules.specs.Setting.{historyLength, indexScale}
-use Rattle.rules.specs.State.{State, countersUsed, threadsUsed, threadCell, headOf, headWords, freshHead, fresh, state}
+use Rattle.rules.specs.State.{State, countersUsed, threadsUsed, threadCell, headOf, headWords, freshHead, fresh}
 use Rattle.rules.specs.Clock.{epoch, activeFilter, clears, turnedCounters, turnedThreads, movedHead, turned}
 use Rattle.rules.specs.Hash.{places}
 use Rattle.rules.specs.Quota.{document01, quotaDown, indexCounter}
-use Rattle.rules.specs.Calls.{Call, request, done, index, Reply, refused, answered, finished, shown, Outcome, setup, setupRefusal, callRefusal, doneRefusal, unlessRefused, requested, reported, indexShown, step}
+use Rattle.rules.specs.Calls.{request, done, index, refused, answered, finished, Outcome, setup, setupRefusal, callRefusal, doneRefusal, unlessRefused, requested, reported, indexShown, step}
 use Rattle.rules.proofs.Tests.{and-l, and-r}
 use Rattle.rules.proofs.Clearing.{clear-kept}
-use Rattle.throttle.specs.Left.{Left, left, found, outcome, leaves, oneLess}
+use Rattle.throttle.specs.Left.{left, found, outcome, leaves, oneLess}
 
 -- ---- refused or not
 

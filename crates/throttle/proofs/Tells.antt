@@ -1,30 +1,27 @@
 -- What the calls for Rattle callers tell, refused or not.
 use Prim.Native.Nat.{ℕ}
-use mathlib.Core.Path.{_≡_, refl, sym, ap, _∙_, subst}
+use mathlib.Core.Path.{_≡_, refl, sym, ap, _∙_}
 use mathlib.Core.Logic.{_≢_}
 use mathlib.Core.List.{List}
-use mathlib.Core.Bool.{Bool, true, false, not}
-use native.Mathlib.Omega.{arith}
-use lib.Dec.{eqb}
-use lib.ListN.{getD}
+use mathlib.Core.Bool.{Bool, true, false}
 use Rattle.rules.specs.declared.Setting.{Setting}
 use Rattle.rules.specs.declared.Head.{Head}
 use Rattle.rules.specs.declared.Answer.{Answer}
-use Rattle.rules.specs.Answers.{Refusal, none, shortBuffer, noneInFlight, refusalNumber, refuse, orElse}
+use Rattle.rules.specs.Answers.{Refusal, none, noneInFlight, refusalNumber, refuse}
 use Rattle.rules.specs.Setting.{settingRefusal}
-use Rattle.rules.specs.State.{State, countersUsed, threadsUsed, threadCell, tooShort, state}
+use Rattle.rules.specs.State.{State, countersUsed, threadsUsed, state}
 use Rattle.rules.specs.Clock.{epoch, turnedCounters, turnedThreads, movedHead, turned}
 use Rattle.rules.specs.History.{memoryOk}
 use Rattle.rules.specs.Quota.{limits01, document01}
-use Rattle.rules.specs.Calls.{Reply, refused, answered, finished, Outcome, setupRefusal, callRefusal, doneRefusal, unlessRefused, reported}
+use Rattle.rules.specs.Calls.{answered, finished, Outcome, setupRefusal, callRefusal, unlessRefused, reported}
 use Rattle.rules.proofs.Tests.{is-true}
-use Rattle.rules.proofs.Accept.{Taken, taken, number-none}
+use Rattle.rules.proofs.Accept.{Taken}
 use Rattle.rules.proofs.Memory.{memory-ok, taken-memory, turned-long, reported-long}
 use Rattle.rules.proofs.Sound.{Sound, long-not-short}
 use Rattle.throttle.specs.Left.{outcome, oneLess}
-use Rattle.refusal.specs.Tests.{memoryTest, shortTest, placeRefusal}
+use Rattle.refusal.specs.Tests.{memoryTest, placeRefusal}
 use Rattle.throttle.specs.Told.{Told, Over}
-use Rattle.refusal.proofs.Refusals.{setupTest, setup-test, call-place, done-last}
+use Rattle.refusal.proofs.Refusals.{setupTest, setup-test, call-place}
 use Rattle.throttle.proofs.Settled.{unless-taken, unless-refused}
 
 -- ---- refusals on a state that passed the tests

@@ -4,7 +4,7 @@ use mathlib.Core.Path.{_≡_}
 use Rattle.rules.specs.declared.Setting.{Setting}
 use Rattle.rules.specs.declared.Answer.{Answer}
 use Rattle.rules.specs.State.{State}
-use Rattle.rules.specs.Calls.{Reply, answered, finished, returnCode, Outcome}
+use Rattle.rules.specs.Calls.{answered, finished, returnCode, Outcome}
 use Rattle.rules.proofs.Sound.{Sound}
 
 -- a request: the code is the reply's, the answer is the reply's where the code is 0, the state is the outcome's and passes the tests again

@@ -1,5 +1,5 @@
 -- `run` goes over the blocks of the input up to the first event. Each block that goes on is counted, and the count stays within 32 bits.
-use Prim.Native.Nat.{ℕ, _+_, _-_, _*_, _^_, _≤_, _<_}
+use Prim.Native.Nat.{_-_, _^_}
 use mathlib.Core.Path.{_≡_}
 use native.Mathlib.Omega.{arith}
 use lib.ListN.{length}

@@ -1,5 +1,5 @@
 -- `quota::quota`: the full quota while the counter is 0, and else the formula.
-use mathlib.Core.Path.{_≡_, sym, ap, _∙_}
+use mathlib.Core.Path.{sym, ap, _∙_}
 use borrow.Author.Needs.{needs}
 use Rattle.rules.specs.Quota.{quotaDown}
 use Rattle.quota.proofs.Index.{quota-full}

@@ -1,5 +1,5 @@
 -- `done_refusal` gives the refusals of a call, then 10.
-use mathlib.Core.Path.{_≡_, refl, sym, ap, _∙_}
+use mathlib.Core.Path.{refl, sym, ap, _∙_}
 use Rattle.rules.specs.Answers.{refusalNumber}
 use Rattle.rules.specs.State.{State, state}
 use Rattle.rules.specs.Quota.{document01}

@@ -1,9 +1,7 @@
 -- `memory_ok` makes the tests of refusal 7 in their order.
-use Prim.Native.Nat.{_≤_, _<_}
-use mathlib.Core.Path.{_≡_, refl, sym, ap, _∙_}
-use mathlib.Core.Bool.{true, false, _&&_}
+use mathlib.Core.Path.{_≡_, sym, _∙_}
+use mathlib.Core.Bool.{true, false}
 use lib.Dec.{ltb}
-use native.Mathlib.Omega.{arith}
 use borrow.Author.Tests.{lt-ltb, le-ltb, not-true, not-false}
 use Rattle.rules.specs.Setting.{historyLength}
 use Rattle.refusal.proofs.Refusals.{memory-tests, banksPast, rankPast, historyOk}

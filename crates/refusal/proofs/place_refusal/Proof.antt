@@ -1,8 +1,6 @@
 -- `place_refusal` tests bank, thread and tick in their order.
-use mathlib.Core.Path.{_≡_}
 use borrow.Author.Tests.{lt-ltb, le-ltb, le-leb, lt-leb}
 use Rattle.refusal.specs.Tests.{placeRefusal}
-use borrow.Author.Needs.{needs}
 use Rattle.refusal.proofs.place_refusal.Statement.{statement}
 use Rattle.refusal.proofs.place_refusal.Tie as tie
 

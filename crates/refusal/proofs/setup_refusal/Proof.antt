@@ -1,9 +1,6 @@
 -- `setup_refusal` gives the setting's refusal first, then 6.
-use mathlib.Core.Path.{_≡_, refl, sym, ap, _∙_}
-use mathlib.Core.Bool.{true, false}
-use native.Mathlib.Omega.{arith}
-use borrow.Author.Tests.{not-true, not-false}
-use Rattle.rules.specs.Answers.{none, shortBuffer, refusalNumber, refuse, orElse}
+use mathlib.Core.Path.{sym, ap, _∙_}
+use Rattle.rules.specs.Answers.{none, shortBuffer, refusalNumber, refuse}
 use Rattle.rules.specs.Setting.{settingRefusal}
 use Rattle.rules.specs.Quota.{limits01}
 use Rattle.rules.proofs.Accept.{Accepted, accepted, number-none}

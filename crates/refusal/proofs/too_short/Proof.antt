@@ -1,6 +1,4 @@
 -- `too_short` compares the four lengths with the used parts.
-use Prim.Native.Nat.{_*_, _≤_}
-use mathlib.Core.Path.{_≡_}
 use native.Mathlib.Omega.{arith}
 use borrow.Author.Tests.{lt-ltb, le-ltb}
 use Rattle.refusal.specs.Tests.{shortTest}

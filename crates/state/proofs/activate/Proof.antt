@@ -1,7 +1,6 @@
 -- `activate` counts the row in the filters, records it, and counts it for the thread.
-use mathlib.Core.Path.{_≡_, refl, sym, ap, _∙_}
 use native.Mathlib.Omega.{arith}
-use Rattle.rules.specs.State.{State, state}
+use Rattle.rules.specs.State.{state}
 use Rattle.state.proofs.Parts.{activated-parts}
 use borrow.Author.Needs.{needs}
 use Rattle.state.proofs.activate.Statement.{statement}

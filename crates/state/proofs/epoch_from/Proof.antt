@@ -1,6 +1,4 @@
 -- `epoch_from` divides only where the tick lies past the epoch.
-use mathlib.Core.Path.{_≡_, refl}
-use native.Mathlib.Omega.{arith}
 use Rattle.state.proofs.Parts.{same-epoch}
 use borrow.Author.Needs.{needs}
 use Rattle.state.proofs.epoch_from.Statement.{statement}

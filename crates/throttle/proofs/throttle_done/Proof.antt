@@ -1,9 +1,9 @@
 -- `throttle_done` is refused as the rules say, or is the rules' done.
 use Prim.Native.Nat.{_≤_}
-use mathlib.Core.Path.{_≡_, refl, sym, ap, _∙_}
+use mathlib.Core.Path.{_≡_, sym, _∙_}
 use mathlib.Core.List.{[]}
 use lib.ListN.{getD}
-use Rattle.rules.specs.Answers.{none, refusalNumber}
+use Rattle.rules.specs.Answers.{refusalNumber}
 use Rattle.rules.specs.Setting.{settingOf}
 use Rattle.rules.specs.State.{State, threadCell, state}
 use Rattle.rules.specs.Clock.{turned}

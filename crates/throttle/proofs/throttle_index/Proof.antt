@@ -1,6 +1,6 @@
 -- `throttle_index` is refused as the rules say, or is the rules' index reading.
-use mathlib.Core.Path.{_≡_, refl, sym, ap, _∙_}
-use Rattle.rules.specs.Answers.{none, refusalNumber}
+use mathlib.Core.Path.{_≡_, sym, _∙_}
+use Rattle.rules.specs.Answers.{refusalNumber}
 use Rattle.rules.specs.Setting.{settingOf}
 use Rattle.rules.specs.State.{State, state}
 use Rattle.rules.specs.Clock.{turned}

@@ -1,8 +1,6 @@
 -- `throttle_request` is refused as the rules say, or is the rules' request.
-use mathlib.Core.Path.{_≡_, refl, sym, ap, _∙_}
-use native.Mathlib.Omega.{arith}
-use lib.ListN.{length}
-use Rattle.rules.specs.Answers.{none, refusalNumber}
+use mathlib.Core.Path.{_≡_, sym, _∙_}
+use Rattle.rules.specs.Answers.{refusalNumber}
 use Rattle.rules.specs.Setting.{settingOf}
 use Rattle.rules.specs.State.{State, state}
 use Rattle.rules.specs.Clock.{turned}

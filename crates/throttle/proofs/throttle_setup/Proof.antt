@@ -1,9 +1,7 @@
 -- `throttle_setup` is refused as the rules say, or clears the head and the used parts.
-use Prim.Native.Nat.{_*_, _≤_}
-use mathlib.Core.Path.{_≡_, refl, sym, ap, _∙_}
+use mathlib.Core.Path.{_≡_, sym, ap, _∙_}
 use mathlib.Core.List.{[]}
 use native.Mathlib.Omega.{arith}
-use lib.ListN.{length}
 use Rattle.rules.specs.Answers.{refusalNumber}
 use Rattle.rules.specs.Setting.{settingOf}
 use Rattle.rules.specs.State.{State, fresh}
@@ -11,7 +9,7 @@ use Rattle.rules.specs.Quota.{document01}
 use Rattle.rules.specs.Calls.{finished, setup, setupRefusal}
 use Rattle.rules.proofs.Accept.{SetUp, set-up, number-none, cells-small}
 use Rattle.throttle.specs.Left.{found, outcome}
-use Rattle.refusal.proofs.Refusals.{setupTest, setup-test}
+use Rattle.refusal.proofs.Refusals.{setup-test}
 use Rattle.throttle.proofs.Settled.{left-refused, left-setup}
 use borrow.Author.Needs.{needs}
 use Rattle.throttle.proofs.throttle_setup.Statement.{statement}

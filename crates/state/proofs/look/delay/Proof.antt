@@ -1,10 +1,5 @@
 -- `delay` searches the history where a filter blacklists the row.
-use mathlib.Core.Path.{_≡_, refl, sym, ap, _∙_}
-use mathlib.Core.Bool.{true, false}
 use lib.Dec.{ltb}
-use native.Mathlib.Omega.{arith}
-use Rattle.rules.specs.Setting.{historyLength}
-use Rattle.rules.specs.State.{rowWord}
 use Rattle.history.proofs.Found.{found-fits}
 use Rattle.decision.specs.Numbers.{delayEnd}
 use Rattle.state.proofs.Parts.{searchable, delay-skipped, delay-found}

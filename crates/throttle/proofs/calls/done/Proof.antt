@@ -1,5 +1,4 @@
 -- `done` turns the state to the tick and takes one from in flight, which the turn keeps.
-use mathlib.Core.Path.{_≡_, refl, sym, ap, _∙_}
 use native.Mathlib.Omega.{arith}
 use Rattle.rules.specs.Clock.{epoch}
 use Rattle.throttle.specs.Left.{oneLess}

@@ -1,6 +1,6 @@
 -- `index` turns the state to the tick and reads the thread's counter in test.
-use Prim.Native.Nat.{_+_, _/_, _%_}
-use mathlib.Core.Path.{_≡_, refl, sym, ap, _∙_}
+use Prim.Native.Nat.{_+_, _%_}
+use mathlib.Core.Path.{refl, ap, _∙_}
 use native.Mathlib.Omega.{arith}
 use lib.ListN.{getD}
 use Rattle.rules.specs.State.{threadCell}

@@ -1,13 +1,11 @@
 -- `request` turns the state to the tick, decides from what it looks at, and makes the activation of an opened request.
-use Prim.Native.Nat.{_+_, _≤_, _<_}
-use mathlib.Core.Path.{_≡_, refl, sym, ap, ap₂, _∙_, subst}
-use native.Mathlib.Omega.{arith}
-use lib.ListN.{length, getD}
-use Rattle.rules.specs.declared.Answer.{Answer}
+use Prim.Native.Nat.{_<_}
+use mathlib.Core.Path.{_≡_, sym, ap, ap₂, _∙_, subst}
+use lib.ListN.{getD}
 use Rattle.rules.specs.State.{State, threadCell, state}
 use Rattle.rules.specs.Clock.{epoch, movedHead, turned}
 use Rattle.rules.specs.Hash.{places}
-use Rattle.rules.specs.Filter.{Within, blacklisted}
+use Rattle.rules.specs.Filter.{blacklisted}
 use Rattle.rules.specs.Quota.{document01}
 use Rattle.rules.specs.Decision.{activeEstimate, decide, activated}
 use Rattle.rules.proofs.Accept.{Taken, taken}
@@ -16,7 +14,7 @@ use Rattle.rules.specs.Setting.{seedsInRange}
 use Rattle.rules.proofs.Sound.{Sound}
 use Rattle.decision.specs.Numbers.{viewOf}
 use Rattle.state.specs.Ready.{Ready}
-use Rattle.throttle.proofs.Request.{bounds, turned-parts, ready, within, view-small, decision, black-by-view, few-flying, request-waits, request-opens, moved-sound, activated-sound}
+use Rattle.throttle.proofs.Request.{bounds, turned-parts, ready, view-small, decision, black-by-view, few-flying, request-waits, request-opens, moved-sound, activated-sound}
 use borrow.Author.Needs.{needs}
 use Rattle.throttle.proofs.calls.request.Statement.{statement}
 use Rattle.throttle.proofs.calls.request.Tie as tie

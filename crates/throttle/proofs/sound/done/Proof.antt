@@ -1,11 +1,9 @@
 -- `sound::done` tests bank, thread, tick and what is in flight, and takes one from it.
-use Prim.Native.Nat.{_≤_}
 use mathlib.Core.Path.{_≡_, refl, sym, ap, _∙_, subst}
-use mathlib.Core.Bool.{Bool, true, false}
 use native.Mathlib.Omega.{arith}
 use lib.Dec.{eqb}
 use lib.ListN.{getD}
-use Rattle.rules.specs.Answers.{Refusal, none, noneInFlight, refusalNumber, refuse}
+use Rattle.rules.specs.Answers.{refusalNumber}
 use Rattle.rules.specs.State.{State, threadCell, state}
 use Rattle.rules.specs.Clock.{turned}
 use Rattle.rules.specs.Quota.{document01}

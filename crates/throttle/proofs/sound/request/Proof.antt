@@ -1,5 +1,5 @@
 -- `sound::request` tests bank, thread and tick, and decides.
-use mathlib.Core.Path.{_≡_, refl, sym, ap, _∙_}
+use mathlib.Core.Path.{_≡_, sym, ap, _∙_}
 use Rattle.rules.specs.Answers.{refusalNumber}
 use Rattle.rules.specs.State.{State, state}
 use Rattle.rules.specs.Clock.{turned}
