@@ -1,41 +1,50 @@
 -- What a setting that is not refused, and a call that is not refused, can count on.
 use mathlib.Core.Path.{_≡_, refl, ap}
 use mathlib.Core.List.{List}
-use mathlib.Core.Bool.{Bool, true, false, not, _&&_, _||_}
+use mathlib.Core.Bool.{Bool, true, false, not, _&&_, _||_, cond}
 use Prim.Native.Nat.{ℕ, zero, suc, _+_, _-_, _*_, _%_, _^_, _≤_, _<_}
 use native.Mathlib.Omega.{arith}
 use native.Mathlib.Nat.{lt-div-mul-add, mul-le-mul}
 use lib.Dec.{T, leb, ltb, eqb, leb→le, nltb→le, nleb→lt, eqb→eq}
 use lib.ListN.{length, getD}
 use Rattle.rules.specs.declared.Setting.{Setting}
+use Rattle.rules.specs.declared.Limits.{Limits}
 use Rattle.rules.specs.Cells.{ceilDiv}
 use Rattle.rules.specs.Answers.{Refusal, none, outOfRange, shortWindow, badDelay, longHistory, aboveLimit, shortBuffer, badMemory, outsideSetting, badTick, noneInFlight, refusalNumber, refuse, orElse}
-use Rattle.rules.specs.Setting.{Limits, epochLength, historyLength, rowBound, fieldsInRange, seedsInRange, settingRefusal}
+use Rattle.rules.specs.Setting.{epochLength, historyLength, rowBound, fieldsInRange, seedsInRange, settingRefusal}
 use Rattle.rules.specs.State.{State, countersUsed, threadsUsed, threadCell, tooShort}
 use Rattle.rules.specs.History.{memoryOk}
-use Rattle.rules.specs.Quota.{Policy}
-use Rattle.rules.specs.Calls.{setupRefusal, callRefusal, doneRefusal}
-use Rattle.rules.proofs.Tests.{and-l, and-r, not-or, not-not}
+use Rattle.rules.specs.Tested.{Ranges, Accepted, Long, SetUp, Taken}
+use Rattle.rules.specs.Calls.{Call, request, done, index, setupRefusal, callRefusal, doneRefusal, callTick, callBank, callThread, refusalOf}
+use Rattle.rules.proofs.Tests.{and-l, and-r, not-or, not-not, holds, fails}
 
 -- ---- the order of refusals
 
--- what holds of the later refusal where the earlier one is none, and of the earlier one where it has a number, holds of the first of the two
-pub first-refusal : (P : Refusal → Type 0) (a b : Refusal) → (a ≡ none → P b) → (0 < refusalNumber a → P a) → P (orElse a b)
-first-refusal P none b f g = f refl
-first-refusal P outOfRange b f g = g (omega arith)
-first-refusal P shortWindow b f g = g (omega arith)
-first-refusal P badDelay b f g = g (omega arith)
-first-refusal P longHistory b f g = g (omega arith)
-first-refusal P aboveLimit b f g = g (omega arith)
-first-refusal P shortBuffer b f g = g (omega arith)
-first-refusal P badMemory b f g = g (omega arith)
-first-refusal P outsideSetting b f g = g (omega arith)
-first-refusal P badTick b f g = g (omega arith)
-first-refusal P noneInFlight b f g = g (omega arith)
-
 -- only none has number 0
 pub number-none : (r : Refusal) → refusalNumber r ≡ 0 → r ≡ none
-number-none r e = first-refusal (λ x. r ≡ none) r none (λ z. z) (λ h. absurd (omega arith))
+number-none none e = refl
+number-none outOfRange e = absurd (omega arith)
+number-none shortWindow e = absurd (omega arith)
+number-none badDelay e = absurd (omega arith)
+number-none longHistory e = absurd (omega arith)
+number-none aboveLimit e = absurd (omega arith)
+number-none shortBuffer e = absurd (omega arith)
+number-none badMemory e = absurd (omega arith)
+number-none outsideSetting e = absurd (omega arith)
+number-none badTick e = absurd (omega arith)
+number-none noneInFlight e = absurd (omega arith)
+
+-- what holds of the later refusal where the earlier one is none, and of the earlier one where it has a number, holds of the first of the two
+pub first-refusal : (P : Refusal → Type 0) (a b : Refusal) → (a ≡ none → P b) → (0 < refusalNumber a → P a) → P (orElse a b)
+first-refusal P a b f g = go (eqb (refusalNumber a) 0) refl
+  where
+    some : (n : ℕ) → T (not (eqb n 0)) → 0 < n
+    some zero h = absurd h
+    some (suc n) h = omega arith
+
+    go : (q : Bool) → eqb (refusalNumber a) 0 ≡ q → P (cond q b a)
+    go true e = f (number-none a (eqb→eq (refusalNumber a) 0 (holds (eqb (refusalNumber a) 0) e)))
+    go false e = g (some (refusalNumber a) (fails (eqb (refusalNumber a) 0) e))
 
 pub orElse-none : (a b : Refusal) → orElse a b ≡ none → (a ≡ none) × (b ≡ none)
 orElse-none a b e = first-refusal (λ x. x ≡ none → (a ≡ none) × (b ≡ none)) a b (λ z y. (z, y)) (λ h y. absurd (omega (arith, ap refusalNumber y))) e
@@ -45,28 +54,6 @@ refuse-none true r rest h e = absurd (omega (arith, ap refusalNumber e))
 refuse-none false r rest h e = (tt, e)
 
 -- ---- an accepted setting
-
--- the fields of the setting are in the ranges of the table
-pub record Ranges (m : Limits) (s : Setting) : Type 0 where
-  pub w-low : 2 ≤ s .w
-  pub w-high : s .w ≤ 2 ^ 30
-  pub even : s .w % 2 ≡ 0
-  pub trc-low : 1 ≤ s .trc
-  pub trc-high : s .trc ≤ 65535
-  pub tfaw-low : 1 ≤ s .tfaw
-  pub tfaw-high : s .tfaw ≤ 65535
-  pub n-low : 1 ≤ s .n
-  pub n-high : s .n ≤ m .threshold
-  pub td-low : 1 ≤ s .td
-  pub td-high : s .td ≤ 2 ^ 29
-  pub l-low : 1 ≤ s .l
-  pub l-high : s .l ≤ 2 ^ 24
-  pub q-low : 1 ≤ s .q
-  pub q-high : s .q ≤ 255
-  pub banks-low : 1 ≤ s .banks
-  pub banks-high : s .banks ≤ 16
-  pub threads-low : 1 ≤ s .threads
-  pub threads-high : s .threads ≤ 32
 
 pub ranges : (m : Limits) (s : Setting) → T (fieldsInRange m s) → Ranges m s
 unfolding fieldsInRange
@@ -92,15 +79,6 @@ ranges m s ok =
       threads-low = leb→le 1 (s .threads) (search (and-l, and-r) depth 20);
       threads-high = leb→le (s .threads) 32 (search (and-l, and-r) depth 20);
     }
-
-pub record Accepted (m : Limits) (s : Setting) (seeds : List ℕ) : Type 0 where
-  pub ranges : Ranges m s
-  pub seeds-ok : T (seedsInRange seeds)
-  pub room : 2 * s .n * s .trc ≤ s .w - 1
-  pub gaps : s .trc ≤ s .td
-  pub delay : s .td ≤ epochLength s
-  pub short : historyLength s ≤ m .history
-  pub bound : rowBound s ≤ s .l
 
 pub accepted : (m : Limits) (s : Setting) (seeds : List ℕ) → settingRefusal m s seeds ≡ none → Accepted m s seeds
 unfolding settingRefusal
@@ -151,12 +129,6 @@ epoch-long {s = s} ok = go (s .n) (s .trc) (ok .ranges .n-low) (ok .ranges .trc-
 
 -- ---- a call that is not refused
 
-pub record Long (s : Setting) (st : State) : Type 0 where
-  pub counters : countersUsed s ≤ length (st .counters)
-  pub ticks : historyLength s ≤ length (st .ticks)
-  pub rows : historyLength s ≤ length (st .rows)
-  pub threads : threadsUsed s ≤ length (st .threads)
-
 pub long-enough : (s : Setting) (st : State) → T (not (tooShort s st)) → Long s st
 unfolding tooShort
 long-enough s st h =
@@ -174,33 +146,18 @@ long-enough s st h =
       threads = nltb→le (length (st .threads)) (threadsUsed s) (n3 .1);
     }
 
--- set-up that is not refused
-pub record SetUp (p : Policy) (s : Setting) (seeds : List ℕ) (st : State) : Type 0 where
-  pub setting : Accepted (p .limits) s seeds
-  pub long : Long s st
-
-pub set-up : (p : Policy) (s : Setting) (seeds : List ℕ) (st : State) → setupRefusal p s seeds st ≡ none → SetUp p s seeds st
+pub set-up : (m : Limits) (s : Setting) (seeds : List ℕ) (st : State) → setupRefusal m s seeds st ≡ none → SetUp m s seeds st
 unfolding setupRefusal
-set-up p s seeds st e =
-    let r = orElse-none (settingRefusal (p .limits) s seeds) _ e in
+set-up m s seeds st e =
+    let r = orElse-none (settingRefusal m s seeds) _ e in
     let q = refuse-none (tooShort s st) shortBuffer none (omega arith) (r .1) in
-    record { setting = accepted (p .limits) s seeds (r .0); long = long-enough s st (q .0) }
+    record { setting = accepted m s seeds (r .0); long = long-enough s st (q .0) }
 
--- a request, a done or an index reading that is not refused with 1 to 9
-pub record Taken (p : Policy) (s : Setting) (seeds : List ℕ) (st : State) (t bank thread : ℕ) : Type 0 where
-  pub setting : Accepted (p .limits) s seeds
-  pub long : Long s st
-  pub memory : T (memoryOk s st)
-  pub bank-in : bank < s .banks
-  pub thread-in : thread < s .threads
-  pub later : st .head .last ≤ t
-  pub early : t < 2 ^ 62
-
-pub taken : (p : Policy) (s : Setting) (seeds : List ℕ) (st : State) (t bank thread : ℕ) → callRefusal p s seeds st t bank thread ≡ none
-    → Taken p s seeds st t bank thread
+pub taken : (m : Limits) (s : Setting) (seeds : List ℕ) (st : State) (t bank thread : ℕ) → callRefusal m s seeds st t bank thread ≡ none
+    → Taken m s seeds st t bank thread
 unfolding callRefusal
-taken p s seeds st t bank thread e =
-    let r5 = orElse-none (settingRefusal (p .limits) s seeds) _ e in
+taken m s seeds st t bank thread e =
+    let r5 = orElse-none (settingRefusal m s seeds) _ e in
     let r6 = refuse-none (tooShort s st) shortBuffer _ (omega arith) (r5 .1) in
     let r7 = refuse-none (not (memoryOk s st)) badMemory _ (omega arith) (r6 .1) in
     let r8 = refuse-none (leb (s .banks) bank || leb (s .threads) thread) outsideSetting _ (omega arith) (r7 .1) in
@@ -208,7 +165,7 @@ taken p s seeds st t bank thread e =
     let n8 = not-or (leb (s .banks) bank) (leb (s .threads) thread) (r8 .0) in
     let n9 = not-or (ltb t (st .head .last)) (leb (2 ^ 62) t) (r9 .0) in
     record {
-      setting = accepted (p .limits) s seeds (r5 .0);
+      setting = accepted m s seeds (r5 .0);
       long = long-enough s st (r6 .0);
       memory = not-not (memoryOk s st) (r7 .0);
       bank-in = nleb→lt (s .banks) bank (n8 .0);
@@ -217,12 +174,19 @@ taken p s seeds st t bank thread e =
       early = nleb→lt (2 ^ 62) t (n9 .1);
     }
 
-pub done-taken : (p : Policy) (s : Setting) (seeds : List ℕ) (st : State) (t bank thread : ℕ) → doneRefusal p s seeds st t bank thread ≡ none
-    → (callRefusal p s seeds st t bank thread ≡ none) × T (not (eqb (getD (st .threads) (threadCell s bank thread 2) 0) 0))
+pub done-taken : (m : Limits) (s : Setting) (seeds : List ℕ) (st : State) (t bank thread : ℕ) → doneRefusal m s seeds st t bank thread ≡ none
+    → (callRefusal m s seeds st t bank thread ≡ none) × T (not (eqb (getD (st .threads) (threadCell s bank thread 2) 0) 0))
 unfolding doneRefusal
-done-taken p s seeds st t bank thread e =
-    let r = orElse-none (callRefusal p s seeds st t bank thread) _ e in
+done-taken m s seeds st t bank thread e =
+    let r = orElse-none (callRefusal m s seeds st t bank thread) _ e in
     (r .0, refuse-none (eqb (getD (st .threads) (threadCell s bank thread 2) 0) 0) noneInFlight none (omega arith) (r .1) .0)
+
+-- any call of a list that is not refused
+pub call-taken : (m : Limits) (s : Setting) (seeds : List ℕ) (st : State) (c : Call) → refusalOf m s seeds st c ≡ none
+    → Taken m s seeds st (callTick c) (callBank c) (callThread c)
+call-taken m s seeds st (request t b th r) e = taken m s seeds st t b th e
+call-taken m s seeds st (done t b th) e = taken m s seeds st t b th (done-taken m s seeds st t b th e .0)
+call-taken m s seeds st (index t b th) e = taken m s seeds st t b th e
 
 -- the products that a buffer's length is compared with are small
 pub cells-small : (banks threads : ℕ) → banks ≤ 16 → threads ≤ 32 → banks * threads ≤ 512

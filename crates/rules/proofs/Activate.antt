@@ -11,8 +11,9 @@ use lib.Dec.{T, leb, eqb, leb→le, nleb→lt, eqb→eq, T-not}
 use lib.ListN.{getD, set, drop, length-set}
 use lib.Seq.{getD-set-same, getD-set-other}
 use Rattle.rules.specs.declared.Setting.{Setting}
+use Rattle.rules.specs.declared.Limits.{Limits}
 use Rattle.rules.specs.Cells.{ceilDiv, more, All}
-use Rattle.rules.specs.Setting.{Limits, historyLength}
+use Rattle.rules.specs.Setting.{historyLength}
 use Rattle.rules.specs.State.{State, counterCell, rowWord, cells}
 use Rattle.rules.specs.Clock.{epoch, activeFilter}
 use Rattle.rules.specs.Hash.{places}
@@ -24,12 +25,13 @@ use Rattle.rules.proofs.Tests.{or-e, holds}
 use Rattle.rules.proofs.Cells.{getD-first}
 use Rattle.rules.proofs.Counting.{all-map}
 use Rattle.rules.proofs.Places.{place-lt}
-use Rattle.rules.proofs.Accept.{Accepted, ceil-cover}
+use Rattle.rules.proofs.Accept.{ceil-cover}
+use Rattle.rules.specs.Tested.{Accepted}
 use Rattle.rules.proofs.Ring.{next-lt, back-first, back-next, back-other, match-make, hit, free-none}
 use Rattle.rules.proofs.Trace.{since, row-bank, row-row}
 use Rattle.rules.proofs.Filter.{length-counted, counted-le, counted-adds, estimate-least}
 use Rattle.rules.proofs.Old.{At, at-map, all-at, all-split, ranked-old}
-use Rattle.rules.proofs.Invariant.{Counted, Holds, stored, wordOf}
+use Rattle.rules.proofs.Invariant.{CountedBy, Counted, Holds, stored, wordOf}
 
 -- a rule that passes keeps the gap to every activation whose stored tick is at most the one it looks at
 passed-gap : (gap kept t u : ℕ) → T (passed gap kept t) → u + 1 ≤ kept → u + gap ≤ t
@@ -39,8 +41,13 @@ passed-gap gap kept t u p h = go (or-e (eqb kept 0) (leb (kept - 1 + gap) t) p)
     go (inl q) = absurd (omega (arith, eqb→eq kept 0 q))
     go (inr q) = omega (arith, leb→le (kept - 1 + gap) t q)
 
-module _ (m : Limits) (s : Setting) (seeds : List ℕ) (ok : Accepted m s seeds) (st : State) (tr : List Activation) (i : Holds s seeds st tr)
-    (b r : ℕ) (bh : b < s .banks) where
+more-and : (a c : Bool) (n : ℕ) → more (a && c) n ≤ more a n
+more-and true true n = omega arith
+more-and true false n = omega arith
+more-and false c n = omega arith
+
+module _ (m : Limits) (s : Setting) (seeds : List ℕ) (ok : Accepted m s seeds) (own : ℕ → List ℕ) (st : State) (tr : List Activation)
+    (i : Holds s own st tr) (b th r : ℕ) (bh : b < s .banks) where
   abbrev t : ℕ
   t = st .head .last
 
@@ -48,10 +55,10 @@ module _ (m : Limits) (s : Setting) (seeds : List ℕ) (ok : Accepted m s seeds)
   H = historyLength s
 
   abbrev at : ℕ → List ℕ
-  at f = places seeds r
+  at f = places (own f) r
 
   abbrev new : Activation
-  new = record { tick = t; bank = b; row = r }
+  new = record { tick = t; bank = b; thread = th; row = r }
 
   -- ---- what the rules give
 
@@ -66,7 +73,7 @@ module _ (m : Limits) (s : Setting) (seeds : List ℕ) (ok : Accepted m s seeds)
       omega (
         arith,
         nleb→lt (s .n) (activeEstimate s at st b) p,
-        estimate-least seeds (st .counters) b (activeFilter s t) r (min (s .n) (since s (epoch s t) b r tr)) (λ h q. i .active b r h bh q),
+        estimate-least (own (activeFilter s t)) (st .counters) b (activeFilter s t) r (min (s .n) (since s (epoch s t) b r tr)) (λ h q. i .active b r h bh q),
       )
 
   spaced : T (rowFree H (s .td) (st .ticks) (st .rows) (rowWord b r) t) → All (λ x. T (ofRow b r x) → x .tick + s .td ≤ t) tr
@@ -103,35 +110,34 @@ module _ (m : Limits) (s : Setting) (seeds : List ℕ) (ok : Accepted m s seeds)
 
   -- ---- the filters count it
 
-  counts : (f k : ℕ) → f < 2 → Counted s seeds (st .counters) f k tr → Counted s seeds (counted (s .n) b at (st .counters)) f k (new ∷ tr)
-  counts f k f2 old b′ r′ h bh′ q = go (ofRow b′ r′ new) refl
+  pub counts-by : (f : ℕ) (n n′ : ℕ → ℕ → ℕ) → f < 2 → ((b′ r′ : ℕ) → n′ b′ r′ ≤ more (ofRow b′ r′ new) (n b′ r′))
+      → CountedBy s (own f) (st .counters) f n → CountedBy s (own f) (counted (s .n) b at (st .counters)) f n′
+  counts-by f n n′ f2 grow old b′ r′ h bh′ q = go (ofRow b′ r′ new) refl (grow b′ r′)
     where
       cs : List ℕ
       cs = st .counters
 
-      n : ℕ
-      n = since s k b′ r′ tr
-
-      grow : (x : Bool) → min (s .n) (more x n) ≤ min (s .n) (n + 1)
-      grow true = omega arith
-      grow false = omega arith
-
-      go : (x : Bool) → ofRow b′ r′ new ≡ x → min (s .n) (more (x && leb k (epoch s t + 1)) n) ≤ getD (counted (s .n) b at cs) (counterCell b′ f h) 0
-      go false e = le-trans (old b′ r′ h bh′ q) (counted-le (s .n) b at cs (counterCell b′ f h))
-      go true e =
+      go : (x : Bool) → ofRow b′ r′ new ≡ x → n′ b′ r′ ≤ more x (n b′ r′) → min (s .n) (n′ b′ r′) ≤ getD (counted (s .n) b at cs) (counterCell b′ f h) 0
+      go false e g = le-trans (omega (arith, old b′ r′ h bh′ q)) (counted-le (s .n) b at cs (counterCell b′ f h))
+      go true e g =
           let mine : T (ofRow b′ r′ new) = holds (ofRow b′ r′ new) e in
           let eb : b ≡ b′ = row-bank b′ r′ new mine in
           let er : r ≡ r′ = row-row b′ r′ new mine in
-          let small : h < 1024 = place-lt seeds (ok .seeds-ok) r′ h q in
+          let small : h < 1024 = place-lt (own f) (i .seedsIn f f2) r′ h q in
           let adds : min (s .n) (getD cs (counterCell b′ f h) 0 + 1) ≤ getD (counted (s .n) b at cs) (counterCell b′ f h) 0 =
           rw (← eb) (counted-adds (s .n) b at cs f h f2 (rw er q) (omega (arith, i .countersLong))) in
-          le-trans (grow (leb k (epoch s t + 1))) (le-trans (omega (arith, old b′ r′ h bh′ q)) adds)
+          le-trans (omega (arith, old b′ r′ h bh′ q)) adds
+
+  counts : (f k : ℕ) → f < 2 → Counted s (own f) (st .counters) f k tr → Counted s (own f) (counted (s .n) b at (st .counters)) f k (new ∷ tr)
+  counts f k f2 old =
+      counts-by f (λ b′ r′. since s k b′ r′ tr) (λ b′ r′. since s k b′ r′ (new ∷ tr)) f2
+      (λ b′ r′. more-and (ofRow b′ r′ new) (leb k (epoch s t + 1)) (since s k b′ r′ tr)) old
 
   -- ---- the whole
 
-  pub activated-holds : T (bankRule s st b) → T (rankRule s st) → T (rowRule s at st b r) → (th : ℕ) → Holds s seeds (activated s at st b th r) (new ∷ tr)
+  pub activated-holds : T (bankRule s st b) → T (rankRule s st) → T (rowRule s at st b r) → Holds s own (activated s at st b th r) (new ∷ tr)
   unfolding activated activatedHead
-  activated-holds bk rk ro th =
+  activated-holds bk rk ro =
       record {
         lawful = (i .lawful, i .latest, bank-gap bk, row-law (or-e (not (blacklisted (s .n) (activeEstimate s at st b))) (rowFree H (s .td) (st .ticks) (st .rows) (rowWord b r) t) ro));
         ranked = (i .ranked, rank-gap rk);
@@ -146,6 +152,7 @@ module _ (m : Limits) (s : Setting) (seeds : List ℕ) (ok : Accepted m s seeds)
         bankPast = λ b′ h. bank-past b′ h (ℕ-discrete b′ b);
         rankPast = rank-past;
         ring = shifted;
+        seedsIn = i .seedsIn;
         active = counts (epoch s t % 2) (epoch s t) (omega arith) (i .active);
         passive = counts ((epoch s t + 1) % 2) (epoch s t + 1) (omega arith) (i .passive);
       }

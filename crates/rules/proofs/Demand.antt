@@ -1,33 +1,30 @@
 -- Demand 3, from the theorem about spans of every length.
-use mathlib.Core.Path.{_≡_, ap, _∙_}
-use mathlib.Core.List.{List, []}
-use mathlib.Core.Bool.{_&&_}
+use mathlib.Core.Path.{_≡_, ap, _∙_, subst}
+use mathlib.Core.List.{List}
 use Prim.Native.Nat.{ℕ, _+_, _-_, _*_, _/_, _≤_, _<_}
 use native.Mathlib.Omega.{arith}
 use native.Mathlib.Nat.{le-div-iff-mul-le, div-lt-iff-lt-mul}
 use lib.Dec.{leb, le→leb}
 use Rattle.rules.specs.declared.Setting.{Setting}
+use Rattle.rules.specs.declared.Limits.{Limits}
 use Rattle.rules.specs.Cells.{ceilDiv}
 use Rattle.rules.specs.Setting.{epochLength, rowBound}
 use Rattle.rules.specs.State.{fresh}
-use Rattle.rules.specs.Quota.{Policy}
-use Rattle.rules.specs.Calls.{ofRow, inSpan}
+use Rattle.rules.specs.Policy.{Policy}
+use Rattle.rules.specs.Calls.{timesActivated}
 use Rattle.rules.specs.Claims.{freeMost, spanBound, Spans, Demand3}
 use Rattle.rules.proofs.Tests.{cond-yes}
-use Rattle.rules.proofs.Accept.{Accepted, set-up, epoch-long}
-use Rattle.rules.proofs.Trace.{lawful-span}
-use Rattle.rules.proofs.Step.{fresh-holds, run-holds}
+use Rattle.rules.proofs.Accept.{set-up, epoch-long}
+use Rattle.rules.specs.Tested.{Accepted}
+use Rattle.rules.proofs.Moves.{spans-of-moves}
+use Rattle.rules.proofs.Step.{run-moves}
 
 pub spans : (p : Policy) → Spans p
 spans p s seeds before e cs bank row start x x1 =
-    let up = set-up p s seeds before e in
-    let ok = up .setting in
-    let run = run-holds p s seeds ok cs (fresh s before) [] (fresh-holds p s seeds before up) in
-    omega (
-      arith,
-      run .2 (λ o. ofRow bank row o && inSpan start x (o .tick)),
-      lawful-span s (omega (arith, epoch-long ok)) (ok .ranges .trc-low) (ok .gaps) (run .0) (run .1 .lawful) bank row start x x1,
-    )
+    let up = set-up (p .limits) s seeds before e in
+    let run = run-moves p s seeds cs (fresh s before) in
+    let most = spans-of-moves (p .limits) s seeds before e (λ f. seeds) (λ f f2. up .setting .seeds-ok) (run .moves) (run .allowed) bank row start x x1 in
+    subst (λ l. timesActivated bank row start x l ≤ spanBound s x) (run .makes) most
 
 -- the bound for a span of W ticks is B: three epochs meet it, so F is 2N
 window-epochs : (d : ℕ) → 2 ≤ d → ceilDiv (ceilDiv (2 * d - 1) d + 1) 2 ≡ 2
@@ -37,9 +34,9 @@ window-epochs d h =
     let two : (2 * d - 1 + (d - 1)) / d ≡ 2 = omega arith in
     rw two
 
-window-bound : (p : Policy) (s : Setting) (seeds : List ℕ) → Accepted (p .limits) s seeds → spanBound s (s .w) ≡ rowBound s
+window-bound : (m : Limits) (s : Setting) (seeds : List ℕ) → Accepted m s seeds → spanBound s (s .w) ≡ rowBound s
 unfolding spanBound rowBound
-window-bound p s seeds ok =
+window-bound m s seeds ok =
     let halves : s .w ≡ 2 * epochLength s = omega (arith, ok .ranges .even) in
     let pairs : ceilDiv (ceilDiv (s .w - 1) (epochLength s) + 1) 2 ≡ 2 =
     ap (λ w. ceilDiv (ceilDiv (w - 1) (epochLength s) + 1) 2) halves ∙ window-epochs (epochLength s) (epoch-long ok) in
@@ -49,5 +46,5 @@ window-bound p s seeds ok =
 -- Demand 3, for every policy
 pub demand-3 : (p : Policy) → Demand3 p
 demand-3 p s seeds before e cs bank row start =
-    let ok = set-up p s seeds before e .setting in
-    omega (arith, spans p s seeds before e cs bank row start (s .w) (omega (arith, ok .ranges .w-low)), window-bound p s seeds ok, ok .bound)
+    let ok = set-up (p .limits) s seeds before e .setting in
+    omega (arith, spans p s seeds before e cs bank row start (s .w) (omega (arith, ok .ranges .w-low)), window-bound (p .limits) s seeds ok, ok .bound)

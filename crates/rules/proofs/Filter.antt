@@ -1,5 +1,5 @@
 -- The filters: an activation raises each counter of its row, for counters of any width; the estimate is no more than each counter.
-use mathlib.Core.Path.{_≡_, refl, subst}
+use mathlib.Core.Path.{_≡_, refl, _∙_, subst}
 use mathlib.Core.Logic.{_⊎_, inl, inr}
 use mathlib.Core.List.{List, [], _∷_, map}
 use mathlib.Core.Bool.{Bool, true, false, _||_, cond}
@@ -13,7 +13,7 @@ use borrow.Author.Tests.{lt-ltb, le-ltb, ltb-true, ltb-false}
 use Rattle.rules.specs.Cells.{member, All}
 use Rattle.rules.specs.State.{counterCell}
 use Rattle.rules.specs.Hash.{hash, places}
-use Rattle.rules.specs.Filter.{estimate, raised, named, counted}
+use Rattle.rules.specs.Filter.{two, estimate, raised, named, counted}
 use Rattle.rules.proofs.Tests.{or-l, or-r, or-e, is-true, cond-yes}
 use Rattle.rules.proofs.Cells.{length-mapCells, getD-mapCells, all-mapFrom}
 
@@ -139,3 +139,12 @@ estimate-least seeds cs b f r k g =
 
     there : (y x : ℕ) (l : List ℕ) → T (member x l) → T (member x (y ∷ l))
     there y x l h = or-r (eqb x y) (member x l) h
+
+-- ---- the same places in both filters
+
+pub both-same : {a b : List ℕ} → a ≡ b → two a a ≡ (λ f. b)
+both-same {a = a} {b = b} e = λ i f. (same (eqb f 0) ∙ e) i
+  where
+    same : (q : Bool) → cond q a a ≡ a
+    same true = refl
+    same false = refl

@@ -2,12 +2,13 @@
 use mathlib.Core.Path.{_≡_, refl}
 use mathlib.Core.List.{List, [], _∷_, _++_}
 use mathlib.Core.Bool.{Bool, true, false, _&&_, cond}
-use Prim.Native.Nat.{ℕ, zero, suc, _+_, _-_, _*_, _/_, _%_, _^_, _≤_, _<_, min}
+use Prim.Native.Nat.{ℕ, zero, suc, _+_, _-_, _/_, _%_, _^_, _≤_, _<_}
 use native.Mathlib.Omega.{arith}
-use native.Mathlib.Nat.{add-zero, div-le-of-le-mul}
+use native.Mathlib.Nat.{add-zero, div-le-self}
 use lib.Dec.{T, ltb, ltb→lt, lit<}
 use lib.ListN.{getD, set, replicate}
 use Rattle.rules.specs.declared.Setting.{Setting}
+use Rattle.rules.specs.declared.Limits.{Limits}
 use Rattle.rules.specs.declared.Head.{Head}
 use Rattle.rules.specs.declared.Answer.{Answer}
 use Rattle.rules.specs.declared.Answer.the-variants.{Opened, Wait, Quota}
@@ -17,12 +18,14 @@ use Rattle.rules.specs.State.{State, countersUsed, threadsUsed, threadCe
 use Rattle.rules.specs.Clock.{epoch, clears, activeFilter, turnedCounters, turnedThreads, movedHead, turned}
 use Rattle.rules.specs.Hash.{places}
 use Rattle.rules.specs.Filter.{raised}
-use Rattle.rules.specs.Quota.{document01, quotaDown, inFlightHere, indexCounter}
+use Rattle.rules.specs.Quota.{indexCounter}
+use Rattle.rules.specs.Policy.{Policy}
+use Rattle.rules.specs.Tested.{Ranges, Accepted, Taken}
 use Rattle.rules.specs.Decision.{quotaRule, decide, activatedHead, activatedThreads, activated}
-use Rattle.rules.specs.Calls.{Call, request, done, index, callRefusal, doneRefusal, afterAnswer, requested, reported, indexShown, step, after}
-use Rattle.rules.specs.Claims.{Fits, Stored, RowFits, StepFits, RunFits}
+use Rattle.rules.specs.Calls.{Call, request, done, index, callTick, callBank, callThread, performed, refusalOf, afterAnswer, requested, reported, indexShown, step, after}
+use Rattle.rules.specs.Claims.{Regular, Fits, Stored, RowFits, StepFits, RunFits}
 use Rattle.rules.proofs.Cells.{set-cell, all-mapFrom, getD-first}
-use Rattle.rules.proofs.Accept.{Taken, taken, done-taken}
+use Rattle.rules.proofs.Accept.{call-taken}
 use Rattle.rules.proofs.Ring.{next-lt}
 use Rattle.rules.proofs.Filter.{raised-lt, counted-fits}
 use Rattle.rules.proofs.Memory.{memory}
@@ -123,15 +126,6 @@ activated-words m h d b w nh hm lm =
 
 -- ---- one call
 
--- the quota is at most Q
-pub quota-most : (s : Setting) (c : ℕ) → quotaDown s c ≤ s .q
-unfolding quotaDown
-quota-most s c = div-le-of-le-mul (indexScale s) (bound (s .q) (indexScale s - min c (indexScale s)) (indexScale s) (omega arith))
-  where
-    bound : (a x y : ℕ) → x ≤ y → a * x ≤ y * a
-    bound zero x y h = omega arith
-    bound (suc a) x y h = omega (arith, bound a x y h)
-
 turned-stored : (w t : ℕ) (s : Setting) (st : State) → t < 2 ^ 62 → Stored w st → Stored w (turned s st t)
 unfolding turned turnedCounters turnedThreads movedHead
 turned-stored w t s st early f =
@@ -165,12 +159,12 @@ activated-threads-fit s ts b th black scale few f = pick black
     pick true = below-set (2 ^ 32) first (threadCell s b th 1) _ (up 1) (below-set (2 ^ 32) flying (threadCell s b th 0) _ (up 0) flies)
     pick false = flies
 
--- an activation that the quota lets pass, on the turned state
+-- an activation on the turned state, where fewer than 255 are in flight
 activated-stored : (w : ℕ) (s : Setting) (at : ℕ → List ℕ) (st : State) (b th r : ℕ) → s .n < 2 ^ w → st .head .last < 2 ^ 62
-    → st .head .next < historyLength s → historyLength s ≤ 4096 → b < 16 → r < 65536 → s .l ≤ 2 ^ 24 → s .q ≤ 255
-    → T (quotaRule document01 s st b th) → Stored w st → Stored w (activated s at st b th r)
+    → st .head .next < historyLength s → historyLength s ≤ 2 ^ 32 → b < 16 → r < 65536 → s .l ≤ 2 ^ 24
+    → getD (st .threads) (threadCell s b th 2) 0 < 255 → Stored w st → Stored w (activated s at st b th r)
 unfolding activated
-activated-stored w s at st b th r nw early inRing short b16 r16 l24 q255 quota f =
+activated-stored w s at st b th r nw early inRing short b16 r16 l24 few f =
     record {
       head = from-words (2 ^ 64) (activatedHead (historyLength s) (st .head) b)
           (activated-words (2 ^ 64) (historyLength s) (st .head) b (words (2 ^ 64) (st .head) (f .head)) inRing (omega arith) (omega arith));
@@ -179,18 +173,32 @@ activated-stored w s at st b th r nw early inRing short b16 r16 l24 q255 quota f
       rows = below-set (2 ^ 32) (st .rows) (st .head .next) (rowWord b r) (omega arith) (f .rows);
       threads = activated-threads-fit s (st .threads) b th _ (omega arith) few (f .threads);
     }
-  where
-    few : getD (st .threads) (threadCell s b th 2) 0 < 255
-    few =
-        let c = indexCounter s (st .threads) b th (activeFilter s (st .head .last)) in
-        omega (arith, ltb→lt (inFlightHere s (st .threads) b th) (quotaDown s c) quota, quota-most s c)
 
-opened-fits : (w : ℕ) (s : Setting) (at : ℕ → List ℕ) (st : State) (t b th r : ℕ) → s .n < 2 ^ w → t < 2 ^ 62
-    → st .head .next < historyLength s → historyLength s ≤ 4096 → b < 16 → r < 65536 → s .l ≤ 2 ^ 24 → s .q ≤ 255
-    → decide document01 s at (turned s st t) b th r ≡ Opened → Stored w (turned s st t) → Stored w (activated s at (turned s st t) b th r)
+-- H is small under any limits, by the ranges of tD and tFAW
+history-small : {m : Limits} {s : Setting} → Ranges m s → historyLength s ≤ 2 ^ 32
+unfolding historyLength
+history-small {s = s} k = omega (arith, div-le-self (s .td + (s .tfaw - 1)) (s .tfaw), k .td-high, k .tfaw-high)
+
+-- the quota lets a request pass only where the bank has fewer than 255 in flight
+pub few-flying : (p : Policy) → Regular p → (s : Setting) (seeds : List ℕ) (st : State) (b th : ℕ) → Accepted (p .limits) s seeds
+    → b < s .banks → th < s .threads → T (quotaRule p s st b th) → getD (st .threads) (threadCell s b th 2) 0 < 255
+few-flying p reg s seeds st b th ok bh thh q =
+    let c = indexCounter s (st .threads) b th (activeFilter s (st .head .last)) in
+    omega (
+      arith,
+      ltb→lt (p .inFlight s (st .threads) b th) (p .quota s c) q,
+      reg .quotaMost s seeds ok c,
+      reg .ownFlying s (st .threads) b th bh thh,
+    )
+
+opened-fits : (p : Policy) → Regular p → (w : ℕ) (s : Setting) (seeds : List ℕ) (at : ℕ → List ℕ) (st : State) (t b th r : ℕ)
+    → s .n < 2 ^ w → r < 65536 → Taken (p .limits) s seeds st t b th
+    → decide p s at (turned s st t) b th r ≡ Opened → Stored w (turned s st t) → Stored w (activated s at (turned s st t) b th r)
 unfolding turned movedHead
-opened-fits w s at st t b th r nw early inRing short b16 r16 l24 q255 e g =
-    activated-stored w s at (turned s st t) b th r nw early inRing short b16 r16 l24 q255 (opened-rules document01 s at (turned s st t) b th r e .0) g
+opened-fits p reg w s seeds at st t b th r nw r16 k e g =
+    activated-stored w s at (turned s st t) b th r nw (k .early) (memory s st (k .memory) .inRing) (history-small (k .setting .ranges))
+    (omega (arith, k .bank-in, k .setting .ranges .banks-high)) r16 (k .setting .ranges .l-high)
+    (few-flying p reg s seeds (turned s st t) b th (k .setting) (k .bank-in) (k .thread-in) (opened-rules p s at (turned s st t) b th r e .0)) g
 
 done-fits : (w : ℕ) (s : Setting) (st : State) (b th : ℕ) → Stored w st → Stored w (reported s st b th .state)
 unfolding reported
@@ -204,30 +212,29 @@ done-fits w s st b th f =
           (omega (arith, below-at (2 ^ 32) (st .threads) (threadCell s b th 2) (lit< tt) (f .threads))) (f .threads);
     }
 
-pub step-fits : StepFits
-unfolding step requested indexShown
-step-fits w s seeds st (request t b th r) nw f r16 =
-    by-refusal (λ o. Stored w (o .state)) (callRefusal document01 s seeds st t b th) st (requested document01 s at (turned s st t) b th r)
-    (λ e. let k = taken document01 s seeds st t b th e in asked k (turned-stored w t s st (k .early) f)) f
+performed-fits : (p : Policy) → Regular p → (w : ℕ) (s : Setting) (seeds : List ℕ) (st : State) (c : Call) → s .n < 2 ^ w → RowFits c
+    → Taken (p .limits) s seeds st (callTick c) (callBank c) (callThread c) → Stored w st → Stored w (performed p s (λ f. seeds) st c .state)
+unfolding requested indexShown
+performed-fits p reg w s seeds st (request t b th r) nw r16 k f = go (decide p s at (turned s st t) b th r) refl
   where
     at : ℕ → List ℕ
     at i = places seeds r
 
-    asked : Taken document01 s seeds st t b th → Stored w (turned s st t)
-        → Stored w (afterAnswer (decide document01 s at (turned s st t) b th r) (turned s st t) (activated s at (turned s st t) b th r))
-    asked k g = go (decide document01 s at (turned s st t) b th r) refl
-      where
-        go : (a : Answer) → decide document01 s at (turned s st t) b th r ≡ a
-            → Stored w (afterAnswer a (turned s st t) (activated s at (turned s st t) b th r))
-        go Opened e = opened-fits w s at st t b th r nw (k .early) (memory s st (k .memory) .inRing) (k .setting .short) (omega (arith, k .bank-in, k .setting .ranges .banks-high)) r16 (k .setting .ranges .l-high) (k .setting .ranges .q-high) e g
-        go (Wait c u) e = g
-        go Quota e = g
-step-fits w s seeds st (done t b th) nw f r16 =
-    by-refusal (λ o. Stored w (o .state)) (doneRefusal document01 s seeds st t b th) st (reported s (turned s st t) b th)
-    (λ e. let k = taken document01 s seeds st t b th (done-taken document01 s seeds st t b th e .0) in done-fits w s (turned s st t) b th (turned-stored w t s st (k .early) f)) f
-step-fits w s seeds st (index t b th) nw f r16 =
-    by-refusal (λ o. Stored w (o .state)) (callRefusal document01 s seeds st t b th) st (indexShown document01 s (turned s st t) b th)
-    (λ e. turned-stored w t s st (taken document01 s seeds st t b th e .early) f) f
+    g : Stored w (turned s st t)
+    g = turned-stored w t s st (k .early) f
+
+    go : (a : Answer) → decide p s at (turned s st t) b th r ≡ a → Stored w (afterAnswer a (turned s st t) (activated s at (turned s st t) b th r))
+    go Opened e = opened-fits p reg w s seeds at st t b th r nw r16 k e g
+    go (Wait c u) e = g
+    go Quota e = g
+performed-fits p reg w s seeds st (done t b th) nw r16 k f = done-fits w s (turned s st t) b th (turned-stored w t s st (k .early) f)
+performed-fits p reg w s seeds st (index t b th) nw r16 k f = turned-stored w t s st (k .early) f
+
+pub step-fits : (p : Policy) → Regular p → StepFits p
+unfolding step
+step-fits p reg w s seeds st c nw f r16 =
+    by-refusal (λ o. Stored w (o .state)) (refusalOf (p .limits) s seeds st c) st (performed p s (λ i. seeds) st c)
+    (λ e. performed-fits p reg w s seeds st c nw r16 (call-taken (p .limits) s seeds st c e) f) f
 
 -- ---- a list of calls
 
@@ -246,9 +253,9 @@ fresh-stored w s st f =
     below-zeros zero = tt
     below-zeros (suc n) = (lit< tt, below-zeros n)
 
-pub run-fits : RunFits
-run-fits w s seeds before cs nw f rs = go cs (fresh s before) rs (fresh-stored w s before f)
+pub run-fits : (p : Policy) → Regular p → RunFits p
+run-fits p reg w s seeds before cs nw f rs = go cs (fresh s before) rs (fresh-stored w s before f)
   where
-    go : (cs : List Call) (st : State) → All RowFits cs → Stored w st → Stored w (after document01 s seeds st cs)
+    go : (cs : List Call) (st : State) → All RowFits cs → Stored w st → Stored w (after p s seeds st cs)
     go [] st rs g = g
-    go (c ∷ cs) st rs g = go cs (step document01 s seeds st c .state) (rs .1) (step-fits w s seeds st c nw g (rs .0))
+    go (c ∷ cs) st rs g = go cs (step p s seeds st c .state) (rs .1) (step-fits p reg w s seeds st c nw g (rs .0))

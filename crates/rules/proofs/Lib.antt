@@ -13,10 +13,12 @@ pub mod Old
 pub mod Invariant
 pub mod Turn
 pub mod Activate
+pub mod Memory
+pub mod Moves
 pub mod Step
 pub mod Demand
-pub mod Memory
 pub mod Sound
+pub mod Regular
 pub mod Fits
 pub mod First
 pub mod Least

@@ -10,19 +10,18 @@ use lib.Dec.{T, leb, ltb, eqb, leb→le, le→leb, ltb→lt, lt→ltb, eqb→eq}
 use lib.ListN.{length, getD, set, length-set, getD-replicate}
 use lib.Seq.{getD-set-same, getD-set-other}
 use Rattle.rules.specs.declared.Setting.{Setting}
-use Rattle.rules.specs.declared.Head.{Head}
+use Rattle.rules.specs.declared.Limits.{Limits}
 use Rattle.rules.specs.Cells.{every, clearCells}
 use Rattle.rules.specs.Setting.{historyLength}
 use Rattle.rules.specs.State.{State, countersUsed, threadsUsed, cells, freshHead, fresh}
 use Rattle.rules.specs.Clock.{movedHead, turned}
 use Rattle.rules.specs.History.{nextPlace, back, notAfter, neverRises, memoryOk}
-use Rattle.rules.specs.Quota.{Policy}
 use Rattle.rules.specs.Decision.{activatedHead, activatedThreads, activated}
 use Rattle.rules.specs.Calls.{reported}
 use Rattle.rules.proofs.Tests.{and-i, and-l, and-r, or-r, or-e, every-at, every-all}
 use Rattle.rules.proofs.Cells.{set-cell, getD-first}
 use Rattle.rules.proofs.Clearing.{length-clear, clear-zero}
-use Rattle.rules.proofs.Accept.{Long, Taken}
+use Rattle.rules.specs.Tested.{Memory, Long, Taken}
 use Rattle.rules.proofs.Ring.{next-lt, back-lt, back-first, back-next, back-other, falls-one}
 use Rattle.rules.proofs.Filter.{length-counted}
 use Rattle.rules.proofs.Clock.{length-turned, length-turnedThreads}
@@ -38,13 +37,6 @@ not-after last stored h = go (or-e (eqb stored 0) (leb (stored - 1) last) h)
 
 pub after-not : (last stored : ℕ) → stored ≤ last + 1 → T (notAfter last stored)
 after-not last stored h = or-r (eqb stored 0) (leb (stored - 1) last) (le→leb (stored - 1) last (omega arith))
-
-pub record Memory (s : Setting) (d : Head) (ticks : List ℕ) : Type 0 where
-  pub inRing : d .next < historyLength s
-  pub bank : (b : ℕ) → b < s .banks → getD (d .bank) b 0 ≤ d .last + 1
-  pub rank : (k : ℕ) → k < 4 → getD (d .rank) k 0 ≤ d .last + 1
-  pub history : (p : ℕ) → p < historyLength s → getD ticks p 0 ≤ d .last + 1
-  pub steady : T (neverRises (historyLength s) (d .next) ticks)
 
 module _ (s : Setting) (st : State) where
   abbrev inRingTest : Bool
@@ -138,8 +130,8 @@ turned-memory s st t h m =
     }
 
 -- the state on which a call that is not refused decides
-pub taken-memory : {p : Policy} {s : Setting} {seeds : List ℕ} {st : State} {t bank thread : ℕ}
-    → Taken p s seeds st t bank thread → Memory s (turned s st t .head) (turned s st t .ticks)
+pub taken-memory : {m : Limits} {s : Setting} {seeds : List ℕ} {st : State} {t bank thread : ℕ}
+    → Taken m s seeds st t bank thread → Memory s (turned s st t .head) (turned s st t .ticks)
 taken-memory {s = s} {st = st} {t = t} ok = turned-memory s st t (ok .later) (memory s st (ok .memory))
 
 pub turned-long : (s : Setting) (st : State) (t : ℕ) → Long s st → Long s (turned s st t)

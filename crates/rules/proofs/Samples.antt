@@ -1,7 +1,7 @@
 -- The (p) cases of document 01, by computation.
 use mathlib.Core.Path.{refl}
 use Rattle.rules.specs.Samples.{Cases, house, before}
-use Rattle.rules.specs.Setting.{historyLength, rowBound, fieldsInRange, seedsInRange, settingRefusal}
+use Rattle.rules.specs.Setting.{settingOf, historyLength, rowBound, fieldsInRange, seedsInRange, settingRefusal}
 use Rattle.rules.specs.State.{headOf, tooShort, freshHead, fresh}
 use Rattle.rules.specs.Clock.{turnedCounters, turnedThreads, movedHead, turned}
 use Rattle.rules.specs.Hash.{hash, places}
@@ -12,7 +12,7 @@ use Rattle.rules.specs.Decision.{passesAt, waitTick, decide, activatedHe
 use Rattle.rules.specs.Calls.{setupRefusal, callRefusal, doneRefusal, unlessRefused, requested, reported, indexShown, step}
 
 pub cases : Cases
-unfolding house before historyLength rowBound fieldsInRange seedsInRange settingRefusal headOf tooShort freshHead fresh turnedCounters turnedThreads movedHead turned hash places estimate raised named counted nextPlace back neverRises memoryOk rowFree quotaDown passesAt waitTick decide activatedHead activatedThreads activated setupRefusal callRefusal doneRefusal unlessRefused requested reported indexShown step
+unfolding house before settingOf historyLength rowBound fieldsInRange seedsInRange settingRefusal headOf tooShort freshHead fresh turnedCounters turnedThreads movedHead turned hash places estimate raised named counted nextPlace back neverRises memoryOk rowFree quotaDown passesAt waitTick decide activatedHead activatedThreads activated setupRefusal callRefusal doneRefusal unlessRefused requested reported indexShown step
 cases =
     record {
       bound = refl;

@@ -9,6 +9,7 @@ use lib.Dec.{leb, ltb, eqb}
 use borrow.Author.Tests.{le-ltb}
 use lib.ListN.{length, getD}
 use Rattle.rules.specs.declared.Setting.{Setting}
+use Rattle.rules.specs.declared.Limits.{Limits}
 use Rattle.rules.specs.declared.Answer.{Answer}
 use Rattle.rules.specs.declared.Answer.the-variants.{Opened, Wait, Quota}
 use Rattle.rules.specs.Cells.{All}
@@ -18,19 +19,15 @@ use Rattle.rules.specs.State.{State, countersUsed, threadsUsed, threadCe
 use Rattle.rules.specs.Clock.{turned}
 use Rattle.rules.specs.Hash.{places}
 use Rattle.rules.specs.History.{memoryOk}
-use Rattle.rules.specs.Quota.{Policy}
+use Rattle.rules.specs.Policy.{Policy}
+use Rattle.rules.specs.Tested.{Long, Sound, SetUp}
 use Rattle.rules.specs.Decision.{decide, activated}
-use Rattle.rules.specs.Calls.{Call, request, done, index, Reply, refused, returnCode, setupRefusal, callRefusal, doneRefusal, afterAnswer, requested, reported, indexShown, step, replies}
+use Rattle.rules.specs.Calls.{Call, request, done, index, Reply, refused, returnCode, setupRefusal, callRefusal, doneRefusal, callTick, performed, refusalOf, afterAnswer, requested, reported, indexShown, step, replies}
 use Rattle.rules.specs.Claims.{NeverMemory}
 use Rattle.rules.proofs.Tests.{is-true}
-use Rattle.rules.proofs.Accept.{Long, SetUp, set-up, history-pos, first-refusal, orElse-none, taken, done-taken}
-use Rattle.rules.proofs.Memory.{Memory, memory-ok, fresh-memory, fresh-long, turned-memory, turned-long, activated-memory, activated-long, reported-long}
+use Rattle.rules.proofs.Accept.{set-up, history-pos, first-refusal, orElse-none, call-taken}
+use Rattle.rules.proofs.Memory.{memory-ok, fresh-memory, fresh-long, turned-memory, turned-long, activated-memory, activated-long, reported-long}
 use Rattle.rules.proofs.Step.{by-refusal}
-
--- what refusals 6 and 7 test
-pub record Sound (s : Setting) (st : State) : Type 0 where
-  pub long : Long s st
-  pub ok : Memory s (st .head) (st .ticks)
 
 pub long-not-short : (s : Setting) (st : State) → Long s st → tooShort s st ≡ false
 unfolding tooShort
@@ -44,31 +41,34 @@ long-not-short s st l =
 
 -- ---- every call keeps it
 
-pub step-sound : (p : Policy) (s : Setting) (seeds : List ℕ) (st : State) (c : Call) → Sound s st → Sound s (step p s seeds st c .state)
-unfolding step requested reported indexShown
-step-sound p s seeds st (request t b th r) h =
-    by-refusal (λ o. Sound s (o .state)) (callRefusal p s seeds st t b th) st (requested p s at (turned s st t) b th r)
-    (λ e. go (decide p s at (turned s st t) b th r) (moved (taken p s seeds st t b th e .later))) h
+turned-sound : (s : Setting) (st : State) (t : ℕ) → st .head .last ≤ t → Sound s st → Sound s (turned s st t)
+turned-sound s st t k h = record { long = turned-long s st t (h .long); ok = turned-memory s st t k (h .ok) }
+
+performed-sound : (p : Policy) (s : Setting) (seeds : List ℕ) (st : State) (c : Call) → st .head .last ≤ callTick c → Sound s st
+    → Sound s (performed p s (λ f. seeds) st c .state)
+unfolding requested reported indexShown
+performed-sound p s seeds st (request t b th r) k h = go (decide p s at (turned s st t) b th r)
   where
     at : ℕ → List ℕ
     at f = places seeds r
 
-    moved : st .head .last ≤ t → Sound s (turned s st t)
-    moved k = record { long = turned-long s st t (h .long); ok = turned-memory s st t k (h .ok) }
+    moved : Sound s (turned s st t)
+    moved = turned-sound s st t k h
 
-    go : (a : Answer) → Sound s (turned s st t) → Sound s (afterAnswer a (turned s st t) (activated s at (turned s st t) b th r))
-    go Opened k = record { long = activated-long s at (turned s st t) b th r (k .long); ok = activated-memory s at (turned s st t) b th r (k .long) (k .ok) }
-    go (Wait c u) k = k
-    go Quota k = k
-step-sound p s seeds st (done t b th) h =
-    by-refusal (λ o. Sound s (o .state)) (doneRefusal p s seeds st t b th) st (reported s (turned s st t) b th)
-    (λ e. after-done (taken p s seeds st t b th (done-taken p s seeds st t b th e .0) .later)) h
-  where
-    after-done : st .head .last ≤ t → Sound s (reported s (turned s st t) b th .state)
-    after-done k = record { long = reported-long s (turned s st t) b th (turned-long s st t (h .long)); ok = turned-memory s st t k (h .ok) }
-step-sound p s seeds st (index t b th) h =
-    by-refusal (λ o. Sound s (o .state)) (callRefusal p s seeds st t b th) st (indexShown p s (turned s st t) b th)
-    (λ e. record { long = turned-long s st t (h .long); ok = turned-memory s st t (taken p s seeds st t b th e .later) (h .ok) }) h
+    go : (a : Answer) → Sound s (afterAnswer a (turned s st t) (activated s at (turned s st t) b th r))
+    go Opened = record { long = activated-long s at (turned s st t) b th r (moved .long); ok = activated-memory s at (turned s st t) b th r (moved .long) (moved .ok) }
+    go (Wait c u) = moved
+    go Quota = moved
+performed-sound p s seeds st (done t b th) k h =
+    let moved = turned-sound s st t k h in
+    record { long = reported-long s (turned s st t) b th (moved .long); ok = moved .ok }
+performed-sound p s seeds st (index t b th) k h = turned-sound s st t k h
+
+pub step-sound : (p : Policy) (s : Setting) (seeds : List ℕ) (st : State) (c : Call) → Sound s st → Sound s (step p s seeds st c .state)
+unfolding step
+step-sound p s seeds st c h =
+    by-refusal (λ o. Sound s (o .state)) (refusalOf (p .limits) s seeds st c) st (performed p s (λ f. seeds) st c)
+    (λ e. performed-sound p s seeds st c (call-taken (p .limits) s seeds st c e .later) h) h
 
 -- ---- so 6 and 7 do not come
 
@@ -77,20 +77,20 @@ later-refusal true y = (omega arith, omega arith)
 later-refusal false true = (omega arith, omega arith)
 later-refusal false false = (omega arith, omega arith)
 
-pub call-sound : (p : Policy) (s : Setting) (seeds : List ℕ) (st : State) (t b th : ℕ) → settingRefusal (p .limits) s seeds ≡ none → Sound s st
-    → (refusalNumber (callRefusal p s seeds st t b th) ≢ 6) × (refusalNumber (callRefusal p s seeds st t b th) ≢ 7)
+pub call-sound : (m : Limits) (s : Setting) (seeds : List ℕ) (st : State) (t b th : ℕ) → settingRefusal m s seeds ≡ none → Sound s st
+    → (refusalNumber (callRefusal m s seeds st t b th) ≢ 6) × (refusalNumber (callRefusal m s seeds st t b th) ≢ 7)
 unfolding callRefusal
-call-sound p s seeds st t b th e h =
+call-sound m s seeds st t b th e h =
     rw (e, long-not-short s st (h .long), is-true (memoryOk s st) (memory-ok s st (h .ok)))
     (later-refusal (leb (s .banks) b || leb (s .threads) th) (ltb t (st .head .last) || leb (2 ^ 62) t))
 
-done-sound : (p : Policy) (s : Setting) (seeds : List ℕ) (st : State) (t b th : ℕ) → settingRefusal (p .limits) s seeds ≡ none → Sound s st
-    → (refusalNumber (doneRefusal p s seeds st t b th) ≢ 6) × (refusalNumber (doneRefusal p s seeds st t b th) ≢ 7)
+done-sound : (m : Limits) (s : Setting) (seeds : List ℕ) (st : State) (t b th : ℕ) → settingRefusal m s seeds ≡ none → Sound s st
+    → (refusalNumber (doneRefusal m s seeds st t b th) ≢ 6) × (refusalNumber (doneRefusal m s seeds st t b th) ≢ 7)
 unfolding doneRefusal
-done-sound p s seeds st t b th e h =
+done-sound m s seeds st t b th e h =
     let free = eqb (getD (st .threads) (threadCell s b th 2) 0) 0 in
-    first-refusal (λ r. (refusalNumber r ≢ 6) × (refusalNumber r ≢ 7)) (callRefusal p s seeds st t b th) (refuse free noneInFlight none)
-    (λ z. late free) (λ k. call-sound p s seeds st t b th e h)
+    first-refusal (λ r. (refusalNumber r ≢ 6) × (refusalNumber r ≢ 7)) (callRefusal m s seeds st t b th) (refuse free noneInFlight none)
+    (λ z. late free) (λ k. call-sound m s seeds st t b th e h)
   where
     late : (x : Bool) → (refusalNumber (refuse x noneInFlight none) ≢ 6) × (refusalNumber (refuse x noneInFlight none) ≢ 7)
     late true = (omega arith, omega arith)
@@ -100,30 +100,36 @@ done-sound p s seeds st t b th e h =
 abbrev Codes : Reply → Type 0
 Codes r = (returnCode r ≢ 6) × (returnCode r ≢ 7)
 
+refusal-codes : (m : Limits) (s : Setting) (seeds : List ℕ) (st : State) (c : Call) → settingRefusal m s seeds ≡ none → Sound s st
+    → (refusalNumber (refusalOf m s seeds st c) ≢ 6) × (refusalNumber (refusalOf m s seeds st c) ≢ 7)
+refusal-codes m s seeds st (request t b th r) e h = call-sound m s seeds st t b th e h
+refusal-codes m s seeds st (done t b th) e h = done-sound m s seeds st t b th e h
+refusal-codes m s seeds st (index t b th) e h = call-sound m s seeds st t b th e h
+
+performed-codes : (p : Policy) (s : Setting) (own : ℕ → List ℕ) (st : State) (c : Call) → Codes (performed p s own st c .reply)
+unfolding requested reported indexShown
+performed-codes p s own st (request t b th r) = (omega arith, omega arith)
+performed-codes p s own st (done t b th) = (omega arith, omega arith)
+performed-codes p s own st (index t b th) = (omega arith, omega arith)
+
 step-codes : (p : Policy) (s : Setting) (seeds : List ℕ) (st : State) (c : Call) → settingRefusal (p .limits) s seeds ≡ none → Sound s st
     → Codes (step p s seeds st c .reply)
-unfolding step requested reported indexShown
-step-codes p s seeds st (request t b th r) e h =
-    by-refusal (λ o. Codes (o .reply)) (callRefusal p s seeds st t b th) st (requested p s (λ f. places seeds r) (turned s st t) b th r)
-    (λ k. (omega arith, omega arith)) (call-sound p s seeds st t b th e h)
-step-codes p s seeds st (done t b th) e h =
-    by-refusal (λ o. Codes (o .reply)) (doneRefusal p s seeds st t b th) st (reported s (turned s st t) b th)
-    (λ k. (omega arith, omega arith)) (done-sound p s seeds st t b th e h)
-step-codes p s seeds st (index t b th) e h =
-    by-refusal (λ o. Codes (o .reply)) (callRefusal p s seeds st t b th) st (indexShown p s (turned s st t) b th)
-    (λ k. (omega arith, omega arith)) (call-sound p s seeds st t b th e h)
+unfolding step
+step-codes p s seeds st c e h =
+    by-refusal (λ o. Codes (o .reply)) (refusalOf (p .limits) s seeds st c) st (performed p s (λ f. seeds) st c)
+    (λ k. performed-codes p s (λ f. seeds) st c) (refusal-codes (p .limits) s seeds st c e h)
 
 codes-never : (r : Reply) → Codes r → (r ≢ refused shortBuffer) × (r ≢ refused badMemory)
 codes-never r k = ((λ q. k .0 (ap returnCode q)), (λ q. k .1 (ap returnCode q)))
 
-pub fresh-sound : (p : Policy) (s : Setting) (seeds : List ℕ) (st : State) → SetUp p s seeds st → Sound s (fresh s st)
-fresh-sound p s seeds st up =
+pub fresh-sound : (m : Limits) (s : Setting) (seeds : List ℕ) (st : State) → SetUp m s seeds st → Sound s (fresh s st)
+fresh-sound m s seeds st up =
     record { long = fresh-long s st (up .long); ok = fresh-memory s st (history-pos (up .setting)) (up .setting .ranges .banks-high) }
 
 pub never-memory : (p : Policy) → NeverMemory p
 unfolding setupRefusal
 never-memory p s seeds before e cs =
-    go cs (fresh s before) (fresh-sound p s seeds before (set-up p s seeds before e))
+    go cs (fresh s before) (fresh-sound (p .limits) s seeds before (set-up (p .limits) s seeds before e))
   where
     none-setting : settingRefusal (p .limits) s seeds ≡ none
     none-setting = orElse-none (settingRefusal (p .limits) s seeds) (refuse (tooShort s before) shortBuffer none) e .0

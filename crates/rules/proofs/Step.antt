@@ -1,69 +1,28 @@
--- Set-up gives the invariant and every call keeps it, refused ones included; so the activations of any list of calls are lawful.
-use mathlib.Core.Path.{_≡_, refl, ap}
+-- Every call is moves, refused ones none; so the activations of any list of calls are those of a list of moves.
+use mathlib.Core.Path.{_≡_, refl, sym, ap, _∙_, subst}
 use mathlib.Core.List.{List, [], _∷_, _++_}
 use mathlib.Core.Bool.{Bool, true, false, cond}
-use Prim.Native.Nat.{ℕ, zero, suc, _+_, _≤_, _<_}
+use Prim.Native.Nat.{ℕ}
 use native.Mathlib.Omega.{arith}
-use lib.Dec.{T, ltb, eqb, lt→ltb, eqb→eq}
-use lib.ListN.{getD, drop, replicate, getD-replicate}
+use lib.Dec.{T, eqb, eqb→eq}
 use Rattle.rules.specs.declared.Setting.{Setting}
 use Rattle.rules.specs.declared.Answer.{Answer}
 use Rattle.rules.specs.declared.Answer.the-variants.{Opened, Wait, Quota}
-use Rattle.rules.specs.Cells.{count, clearCells, All}
 use Rattle.rules.specs.Answers.{Refusal, none, refusalNumber, answerNumber}
-use Rattle.rules.specs.Setting.{historyLength}
-use Rattle.rules.specs.State.{State, countersUsed, freshHead, fresh}
-use Rattle.rules.specs.Clock.{turned, movedHead}
+use Rattle.rules.specs.Setting.{seedsInRange}
+use Rattle.rules.specs.State.{State}
+use Rattle.rules.specs.Clock.{movedHead, turned}
 use Rattle.rules.specs.Hash.{places}
-use Rattle.rules.specs.History.{back}
-use Rattle.rules.specs.Quota.{Policy}
+use Rattle.rules.specs.Policy.{Policy}
 use Rattle.rules.specs.Decision.{quotaRule, bankRule, rankRule, rowRule, waitTick, firstFailing, decide, activated}
-use Rattle.rules.specs.Calls.{Call, request, done, index, refused, answered, Outcome, callRefusal, doneRefusal, unlessRefused, afterAnswer, requested, reported, indexShown, step, replies, after, Activation, activationOf, activations}
+use Rattle.rules.specs.Tested.{Long, Taken}
+use Rattle.rules.specs.Calls.{Call, request, done, index, refused, answered, Outcome, unlessRefused, afterAnswer, requested, reported, indexShown, callTick, callBank, callThread, performed, refusalOf, step, replies, after, Activation, activationOf, activations}
+use Rattle.rules.specs.Moves.{Owned, Move, clock, activate, renew, Reseeds, SameParts, AllAllowed, movedBy, madeBy, Moves}
 use Rattle.rules.proofs.Tests.{holds}
-use Rattle.rules.proofs.Clearing.{length-clear, clear-zero}
-use Rattle.rules.proofs.Counting.{count-append}
-use Rattle.rules.proofs.Accept.{Accepted, history-pos, SetUp, taken, done-taken, number-none}
-use Rattle.rules.proofs.Ring.{back-lt}
-use Rattle.rules.proofs.Invariant.{Holds, stored}
-use Rattle.rules.proofs.Turn.{turned-holds}
-use Rattle.rules.proofs.Activate.{activated-holds}
+use Rattle.rules.proofs.Accept.{number-none, call-taken}
+use Rattle.rules.proofs.Memory.{turned-long}
 
--- ---- set-up
-
-pub fresh-holds : (p : Policy) (s : Setting) (seeds : List ℕ) (st : State) → SetUp p s seeds st → Holds s seeds (fresh s st) []
-unfolding fresh freshHead
-fresh-holds p s seeds st up =
-    record {
-      lawful = tt;
-      ranked = tt;
-      latest = tt;
-      inRing = pos;
-      banksLong = up .setting .ranges .banks-high;
-      countersLong = rw (length-clear (λ i. ltb i (countersUsed s)) (st .counters)) (up .long .counters);
-      ticksLong = rw (length-clear (λ i. ltb i (historyLength s)) (st .ticks)) (up .long .ticks);
-      rowsLong = rw (length-clear (λ i. ltb i (historyLength s)) (st .rows)) (up .long .rows);
-      bankLast = λ b h. tt;
-      rankLast = rank;
-      bankPast = λ b h. rw (getD-replicate {A = ℕ} 16 b 0 0 (omega (arith, up .setting .ranges .banks-high))) (omega arith);
-      rankPast = λ j h. rw (getD-replicate {A = ℕ} 4 j 0 0 h) (omega arith);
-      ring = λ j h. (empty (st .ticks) j h, empty (st .rows) j h);
-      active = λ b r h bh q. omega arith;
-      passive = λ b r h bh q. omega arith;
-    }
-  where
-    pos : 0 < historyLength s
-    pos = history-pos (up .setting)
-
-    rank : (j : ℕ) → j < 4 → All (λ x. stored x ≤ getD (replicate 4 0) j 0) (drop {A = Activation} j [])
-    rank zero h = tt
-    rank (suc j) h = tt
-
-    empty : (l : List ℕ) (j : ℕ) → j < historyLength s → getD (clearCells (λ i. ltb i (historyLength s)) l) (back (historyLength s) 0 j) 0 ≡ 0
-    empty l j h =
-        clear-zero (λ i. ltb i (historyLength s)) (back (historyLength s) 0 j) l
-        (lt→ltb (back (historyLength s) 0 j) (historyLength s) (back-lt (historyLength s) 0 pos j h))
-
--- ---- a call
+-- ---- the rules of an opened request
 
 -- an answer is opened only if all four rules pass
 all-pass : (a b c d : Bool) (u : ℕ) → firstFailing a b c d u ≡ Opened → T a × T b × T c × T d
@@ -89,48 +48,105 @@ by-refusal P r st o f g = go (eqb (refusalNumber r) 0) refl
     go true e = f (number-none r (eqb→eq (refusalNumber r) 0 (holds (eqb (refusalNumber r) 0) e)))
     go false e = g
 
-module _ (p : Policy) (s : Setting) (seeds : List ℕ) (ok : Accepted (p .limits) s seeds) where
-  -- what a call and its reply add to the activations
-  abbrev Kept : List Activation → Call → Outcome → Type 0
-  Kept tr c o = Holds s seeds (o .state) (activationOf c (o .reply) ++ tr)
+-- ---- moves one after the other
 
-  requested-holds : (st : State) (tr : List Activation) (b th r : ℕ) → b < s .banks → Holds s seeds st tr
-      → Kept tr (request (st .head .last) b th r) (requested p s (λ f. places seeds r) st b th r)
-  unfolding requested
-  requested-holds st tr b th r bh i = go (decide p s at st b th r) refl
+module _ (s : Setting) where
+  no-moves : (x : Owned) → Moves s x x []
+  no-moves x = record { moves = []; allowed = tt; end = refl; makes = refl }
+
+  both-allowed : (x : Owned) (vs ws : List Move) → AllAllowed s x vs → AllAllowed s (movedBy s x vs) ws → AllAllowed s x (vs ++ ws)
+  both-allowed x [] ws a b = b
+  both-allowed x (v ∷ vs) ws a b = (a .0, both-allowed _ vs ws (a .1) b)
+
+  both-end : (x : Owned) (vs ws : List Move) → movedBy s x (vs ++ ws) ≡ movedBy s (movedBy s x vs) ws
+  both-end x [] ws = refl
+  both-end x (v ∷ vs) ws = both-end _ vs ws
+
+  both-makes : (x : Owned) (vs ws : List Move) → madeBy s x (vs ++ ws) ≡ madeBy s x vs ++ madeBy s (movedBy s x vs) ws
+  both-makes x [] ws = refl
+  both-makes x (clock t own ∷ vs) ws = both-makes _ vs ws
+  both-makes x (activate b th r ∷ vs) ws = ap (λ l. record { tick = x .state .head .last; bank = b; thread = th; row = r } ∷ l) (both-makes _ vs ws)
+  both-makes x (renew st ∷ vs) ws = both-makes _ vs ws
+
+  pub and-then : {x y z : Owned} {new more : List Activation} → Moves s x y new → Moves s y z more → Moves s x z (new ++ more)
+  and-then {x = x} {new = new} a b =
+      let vs = a .moves in
+      let ws = b .moves in
+      record {
+        moves = vs ++ ws;
+        allowed = both-allowed x vs ws (a .allowed) (subst (λ w. AllAllowed s w ws) (sym (a .end)) (b .allowed));
+        end = both-end x vs ws ∙ ap (λ w. movedBy s w ws) (a .end) ∙ b .end;
+        makes = both-makes x vs ws ∙ ap (λ l. l ++ madeBy s (movedBy s x vs) ws) (a .makes) ∙ ap (λ w. new ++ madeBy s w ws) (a .end) ∙ ap (λ l. new ++ l) (b .makes);
+      }
+
+-- ---- a call
+
+-- a done changes a thread counter only
+reported-same : (s : Setting) (st : State) (b th : ℕ) → Long s st → SameParts s st (reported s st b th .state)
+unfolding reported
+reported-same s st b th l =
+    record {
+      head = refl;
+      countersLong = l .counters;
+      ticksLong = l .ticks;
+      rowsLong = l .rows;
+      counters = λ i h. refl;
+      ticks = λ i h. refl;
+      rows = λ i h. refl;
+    }
+
+module _ (p : Policy) (s : Setting) (seeds : List ℕ) where
+  -- the state with the setting's seeds in both filters
+  abbrev pub owned : State → Owned
+  owned st = record { state = st; own = λ f. seeds }
+
+  -- from a state, a call is moves to the state of its outcome, and its activations are those that its reply tells
+  abbrev ByMoves : State → Call → Outcome → Type 0
+  ByMoves st c o = Moves s (owned st) (owned (o .state)) (activationOf c (o .reply))
+
+  reseeds : (e e′ : ℕ) → T (seedsInRange seeds) → Reseeds e e′ (λ f. seeds) (λ f. seeds)
+  reseeds e e′ fit = record { fit = λ f f2. fit; same = λ f f2 n. refl }
+
+  performed-moves : (st : State) (c : Call) → Taken (p .limits) s seeds st (callTick c) (callBank c) (callThread c)
+      → ByMoves st c (performed p s (λ f. seeds) st c)
+  unfolding requested reported indexShown turned movedHead
+  performed-moves st (request t b th r) k = go (decide p s at (turned s st t) b th r) refl
     where
       at : ℕ → List ℕ
       at f = places seeds r
 
-      go : (a : Answer) → decide p s at st b th r ≡ a
-          → Kept tr (request (st .head .last) b th r) (record { reply = answered a; state = afterAnswer a st (activated s at st b th r) })
+      go : (a : Answer) → decide p s at (turned s st t) b th r ≡ a
+          → ByMoves st (request t b th r) (record { reply = answered a; state = afterAnswer a (turned s st t) (activated s at (turned s st t) b th r) })
       go Opened e =
-          let q = opened-rules p s at st b th r e in
-          activated-holds (p .limits) s seeds ok st tr i b r bh (q .1) (q .2) (q .3) th
-      go (Wait c u) e = i
-      go Quota e = i
+          let q = opened-rules p s at (turned s st t) b th r e in
+          record {
+            moves = clock t (λ f. seeds) ∷ activate b th r ∷ [];
+            allowed = ((k .later, reseeds _ _ (k .setting .seeds-ok)), ((k .bank-in, q .1, q .2, q .3), tt));
+            end = refl;
+            makes = refl;
+          }
+      go (Wait c u) e = record { moves = clock t (λ f. seeds) ∷ []; allowed = ((k .later, reseeds _ _ (k .setting .seeds-ok)), tt); end = refl; makes = refl }
+      go Quota e = record { moves = clock t (λ f. seeds) ∷ []; allowed = ((k .later, reseeds _ _ (k .setting .seeds-ok)), tt); end = refl; makes = refl }
+  performed-moves st (done t b th) k =
+      record {
+        moves = clock t (λ f. seeds) ∷ renew (reported s (turned s st t) b th .state) ∷ [];
+        allowed = ((k .later, reseeds _ _ (k .setting .seeds-ok)), (reported-same s (turned s st t) b th (turned-long s st t (k .long)), tt));
+        end = refl;
+        makes = refl;
+      }
+  performed-moves st (index t b th) k = record { moves = clock t (λ f. seeds) ∷ []; allowed = ((k .later, reseeds _ _ (k .setting .seeds-ok)), tt); end = refl; makes = refl }
 
-  pub step-holds : (st : State) (tr : List Activation) (c : Call) → Holds s seeds st tr → Kept tr c (step p s seeds st c)
-  unfolding step turned movedHead reported indexShown
-  step-holds st tr (request t b th r) i =
-      by-refusal (Kept tr (request t b th r)) (callRefusal p s seeds st t b th) st (requested p s (λ f. places seeds r) (turned s st t) b th r)
-      (λ e. let k = taken p s seeds st t b th e in requested-holds (turned s st t) tr b th r (k .bank-in) (turned-holds (p .limits) s seeds ok st tr t (k .later) i)) i
-  step-holds st tr (done t b th) i =
-      by-refusal (Kept tr (done t b th)) (doneRefusal p s seeds st t b th) st (reported s (turned s st t) b th)
-      (λ e. turned-holds (p .limits) s seeds ok st tr t (taken p s seeds st t b th (done-taken p s seeds st t b th e .0) .later) i) i
-  step-holds st tr (index t b th) i =
-      by-refusal (Kept tr (index t b th)) (callRefusal p s seeds st t b th) st (indexShown p s (turned s st t) b th)
-      (λ e. turned-holds (p .limits) s seeds ok st tr t (taken p s seeds st t b th e .later) i) i
+  refused-moves : (st : State) (c : Call) (r : Refusal) → ByMoves st c (record { reply = refused r; state = st })
+  refused-moves st (request t b th x) r = no-moves s (owned st)
+  refused-moves st (done t b th) r = no-moves s (owned st)
+  refused-moves st (index t b th) r = no-moves s (owned st)
 
-  -- ---- a list of calls
+  pub step-moves : (st : State) (c : Call) → ByMoves st c (step p s seeds st c)
+  unfolding step
+  step-moves st c =
+      by-refusal (ByMoves st c) (refusalOf (p .limits) s seeds st c) st (performed p s (λ f. seeds) st c)
+      (λ e. performed-moves st c (call-taken (p .limits) s seeds st c e)) (refused-moves st c (refusalOf (p .limits) s seeds st c))
 
-  -- the activations of the run in another order, newest first, on top of the earlier ones
-  pub run-holds : (cs : List Call) (st : State) (tr : List Activation) → Holds s seeds st tr
-      → (tr′ : List Activation) × Holds s seeds (after p s seeds st cs) tr′
-      × ((q : Activation → Bool) → count q tr′ ≡ count q (activations cs (replies p s seeds st cs)) + count q tr)
-  run-holds [] st tr i = (tr, i, λ q. omega arith)
-  run-holds (c ∷ cs) st tr i =
-      let o = step p s seeds st c in
-      let new = activationOf c (o .reply) in
-      let rest = run-holds cs (o .state) (new ++ tr) (step-holds st tr c i) in
-      (rest .0, rest .1, λ q. omega (arith, rest .2 q, count-append q new tr, count-append q new (activations cs (replies p s seeds (o .state) cs))))
+  pub run-moves : (cs : List Call) (st : State) → Moves s (owned st) (owned (after p s seeds st cs)) (activations cs (replies p s seeds st cs))
+  run-moves [] st = no-moves s (owned st)
+  run-moves (c ∷ cs) st = and-then s (step-moves st c) (run-moves cs (step p s seeds st c .state))

@@ -1,25 +1,29 @@
 -- A move of the clock keeps the invariant: what is cleared is of no epoch that still counts.
-use mathlib.Core.Path.{_≡_, refl, _∙_}
+use mathlib.Core.Path.{_≡_, refl, _∙_, subst}
 use mathlib.Core.List.{List, [], _∷_}
-use mathlib.Core.Bool.{not, _&&_}
+use mathlib.Core.Bool.{Bool, true, false, not, _&&_, cond}
 use Prim.Native.Nat.{ℕ, _+_, _/_, _%_, _≤_, _<_}
 use native.Mathlib.Omega.{arith}
 use native.Mathlib.Decide.{ℕ-discrete}
 use native.Mathlib.Nat.{le-trans, le-div-iff-mul-le, div-mul-le-self}
 use lib.Dec.{T, leb, leb→le, not-T}
 use Rattle.rules.specs.declared.Setting.{Setting}
-use Rattle.rules.specs.Cells.{All}
-use Rattle.rules.specs.Setting.{Limits, epochLength}
+use Rattle.rules.specs.Cells.{member, count, All}
+use Rattle.rules.specs.Setting.{epochLength, seedsInRange}
+use Rattle.rules.specs.declared.Limits.{Limits}
 use Rattle.rules.specs.State.{State, countersUsed}
 use Rattle.rules.specs.Clock.{epoch, clears, turnedCounters, movedHead, turned}
+use Rattle.rules.specs.Hash.{places}
 use Rattle.rules.specs.Calls.{Activation, ofRow}
-use Rattle.rules.proofs.Tests.{and-r}
+use Rattle.rules.proofs.Tests.{and-r, fails}
 use Rattle.rules.proofs.Counting.{more-no, all-map}
 use Rattle.rules.proofs.Places.{place-lt}
-use Rattle.rules.proofs.Accept.{Accepted, epoch-long}
+use Rattle.rules.proofs.Accept.{epoch-long}
+use Rattle.rules.specs.Tested.{Accepted}
 use Rattle.rules.proofs.Clock.{same-clears, next-clears, length-turned, turned-kept}
 use Rattle.rules.proofs.Trace.{since}
-use Rattle.rules.proofs.Invariant.{Counted, Holds}
+use Rattle.rules.proofs.Invariant.{CountedBy, Counted, Holds}
+use Rattle.rules.specs.Moves.{Reseeds}
 
 pub div-mono : (d a b : ℕ) → 1 ≤ d → a ≤ b → a / d ≤ b / d
 div-mono d a b d1 h = le-div-iff-mul-le d1 .1 (omega (arith, div-mul-le-self a d))
@@ -34,17 +38,33 @@ module _ (m : Limits) (s : Setting) (seeds : List ℕ) (ok : Accepted m s seeds)
       (λ q. omega (arith, leb→le k (epoch s (o .tick) + 1) (and-r (ofRow b r o) (leb k (epoch s (o .tick) + 1)) q), epoch-long ok, div-mono (epochLength s) (o .tick) l (omega (arith, epoch-long ok)) (a .0))))
       ∙ since-none l k b r os (a .1) h
 
-  none-counted : (cs : List ℕ) (f l k : ℕ) (tr : List Activation) → All (λ x. x .tick ≤ l) tr → epoch s l + 2 ≤ k → Counted s seeds cs f k tr
-  none-counted cs f l k tr a h b r p bh q = rw (since-none l k b r tr a h) (omega arith)
+  none-counted : (own cs : List ℕ) (f l k : ℕ) (tr : List Activation) → All (λ x. x .tick ≤ l) tr → epoch s l + 2 ≤ k → Counted s own cs f k tr
+  none-counted own cs f l k tr a h b r p bh q = rw (since-none l k b r tr a h) (omega arith)
 
-  kept-counted : (cs : List ℕ) (e e′ f k : ℕ) (tr : List Activation) → f < 2 → T (not (clears e e′ f)) → Counted s seeds cs f k tr
-      → Counted s seeds (turnedCounters (countersUsed s) e e′ cs) f k tr
-  kept-counted cs e e′ f k tr f2 nc old b r h bh q =
-      rw (turned-kept (countersUsed s) e e′ b f h cs f2 (place-lt seeds (ok .seeds-ok) r h q) nc) (old b r h bh q)
+  -- a filter that is not cleared keeps its seeds and its counts
+  kept-counted : (own own′ cs : List ℕ) (e e′ f : ℕ) (n : ℕ → ℕ → ℕ) → f < 2 → T (not (clears e e′ f)) → own′ ≡ own → T (seedsInRange own)
+      → CountedBy s own cs f n → CountedBy s own′ (turnedCounters (countersUsed s) e e′ cs) f n
+  kept-counted own own′ cs e e′ f n f2 nc same fit old b r h bh q =
+      let q′ : T (member h (places own r)) = subst (λ z. T (member h (places z r))) same q in
+      rw (turned-kept (countersUsed s) e e′ b f h cs f2 (place-lt own fit r h q′) nc) (old b r h bh q′)
 
-  pub turned-holds : (st : State) (tr : List Activation) (t : ℕ) → st .head .last ≤ t → Holds s seeds st tr → Holds s seeds (turned s st t) tr
+  -- what a filter has counted since it was last cleared
+  pub turned-counted : (own own′ : ℕ → List ℕ) (cs : List ℕ) (e e′ f : ℕ) (l : List Activation) → f < 2 → Reseeds e e′ own own′ → T (seedsInRange (own f))
+      → CountedBy s (own f) cs f (λ b r. count (ofRow b r) l)
+      → CountedBy s (own′ f) (turnedCounters (countersUsed s) e e′ cs) f (λ b r. count (ofRow b r) (cond (clears e e′ f) [] l))
+  turned-counted own own′ cs e e′ f l f2 w fit old = go (clears e e′ f) refl
+    where
+      go : (q : Bool) → clears e e′ f ≡ q → CountedBy s (own′ f) (turnedCounters (countersUsed s) e e′ cs) f (λ b r. count (ofRow b r) (cond q [] l))
+      go true c = λ b r h bh m. omega arith
+      go false c =
+          let n = fails (clears e e′ f) c in
+          kept-counted (own f) (own′ f) cs e e′ f (λ b r. count (ofRow b r) l) f2 n (w .same f f2 n) fit old
+
+  -- a cleared filter may take any seeds
+  pub turned-holds : (st : State) (tr : List Activation) (t : ℕ) (own own′ : ℕ → List ℕ) → st .head .last ≤ t
+      → Reseeds (epoch s (st .head .last)) (epoch s t) own own′ → Holds s own st tr → Holds s own′ (turned s st t) tr
   unfolding turned movedHead
-  turned-holds st tr t h i =
+  turned-holds st tr t own own′ h w i =
       record {
         lawful = i .lawful;
         ranked = i .ranked;
@@ -59,6 +79,7 @@ module _ (m : Limits) (s : Setting) (seeds : List ℕ) (ok : Accepted m s seeds)
         bankPast = λ b bh. omega (arith, i .bankPast b bh);
         rankPast = λ j jh. omega (arith, i .rankPast j jh);
         ring = i .ring;
+        seedsIn = w .fit;
         active = to-active (ℕ-discrete (epoch s t) e) (ℕ-discrete (epoch s t) (e + 1));
         passive = to-passive (ℕ-discrete (epoch s t) e);
       }
@@ -72,11 +93,16 @@ module _ (m : Limits) (s : Setting) (seeds : List ℕ) (ok : Accepted m s seeds)
       cs : ℕ → List ℕ
       cs e′ = turnedCounters (countersUsed s) e e′ (st .counters)
 
-      to-active : Dec (epoch s t ≡ e) → Dec (epoch s t ≡ e + 1) → Counted s seeds (cs (epoch s t)) (epoch s t % 2) (epoch s t) tr
-      to-active (yes q) d = rw q (kept-counted (st .counters) e e (e % 2) e tr (omega arith) (same-clears e (e % 2)) (i .active))
-      to-active (no q) (yes n) = rw n (kept-counted (st .counters) e (e + 1) ((e + 1) % 2) (e + 1) tr (omega arith) (next-clears e) (i .passive))
-      to-active (no q) (no n) = none-counted (cs (epoch s t)) (epoch s t % 2) (st .head .last) (epoch s t) tr (i .latest) (omega (arith, up))
+      stays : (f k : ℕ) → f < 2 → T (not (clears e (epoch s t) f)) → Counted s (own f) (st .counters) f k tr → Counted s (own′ f) (cs (epoch s t)) f k tr
+      stays f k f2 nc old = kept-counted (own f) (own′ f) (st .counters) e (epoch s t) f (λ b r. since s k b r tr) f2 nc (w .same f f2 nc) (i .seedsIn f f2) old
 
-      to-passive : Dec (epoch s t ≡ e) → Counted s seeds (cs (epoch s t)) ((epoch s t + 1) % 2) (epoch s t + 1) tr
-      to-passive (yes q) = rw q (kept-counted (st .counters) e e ((e + 1) % 2) (e + 1) tr (omega arith) (same-clears e ((e + 1) % 2)) (i .passive))
-      to-passive (no q) = none-counted (cs (epoch s t)) ((epoch s t + 1) % 2) (st .head .last) (epoch s t + 1) tr (i .latest) (omega (arith, up))
+      to-active : Dec (epoch s t ≡ e) → Dec (epoch s t ≡ e + 1) → Counted s (own′ (epoch s t % 2)) (cs (epoch s t)) (epoch s t % 2) (epoch s t) tr
+      to-active (yes q) d = stays (epoch s t % 2) (epoch s t) (omega arith) (rw q (same-clears e (e % 2))) (rw q (i .active))
+      to-active (no q) (yes n) = stays (epoch s t % 2) (epoch s t) (omega arith) (rw n (next-clears e)) (rw n (i .passive))
+      to-active (no q) (no n) =
+          none-counted (own′ (epoch s t % 2)) (cs (epoch s t)) (epoch s t % 2) (st .head .last) (epoch s t) tr (i .latest) (omega (arith, up))
+
+      to-passive : Dec (epoch s t ≡ e) → Counted s (own′ ((epoch s t + 1) % 2)) (cs (epoch s t)) ((epoch s t + 1) % 2) (epoch s t + 1) tr
+      to-passive (yes q) = stays ((epoch s t + 1) % 2) (epoch s t + 1) (omega arith) (rw q (same-clears e ((e + 1) % 2))) (rw q (i .passive))
+      to-passive (no q) =
+          none-counted (own′ ((epoch s t + 1) % 2)) (cs (epoch s t)) ((epoch s t + 1) % 2) (st .head .last) (epoch s t + 1) tr (i .latest) (omega (arith, up))

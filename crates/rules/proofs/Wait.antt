@@ -11,17 +11,18 @@ use native.Mathlib.Decide.{ℕ-discrete}
 use lib.Dec.{T, leb, eqb, leb→le, le→leb, eqb→eq, not-T, T-not}
 use lib.ListN.{getD}
 use Rattle.rules.specs.declared.Setting.{Setting}
+use Rattle.rules.specs.declared.Limits.{Limits}
 use Rattle.rules.specs.Setting.{epochLength, historyLength}
 use Rattle.rules.specs.State.{State, rowWord}
 use Rattle.rules.specs.Clock.{epoch, movedHead, turned}
 use Rattle.rules.specs.Filter.{Within, estimate, blacklisted}
 use Rattle.rules.specs.History.{rowFree}
-use Rattle.rules.specs.Quota.{Policy}
 use Rattle.rules.specs.Decision.{passed, activeEstimate, passesAt, waitTick}
 use Rattle.rules.specs.Claims.{Least, WaitIsLeast, WaitIsClosed, gapEnd, closedWait}
 use Rattle.rules.proofs.Tests.{and-i, and-l, and-r, or-l, or-r, or-e, cond-no}
 use Rattle.rules.proofs.Accept.{epoch-long, taken}
-use Rattle.rules.proofs.Memory.{Memory, taken-memory}
+use Rattle.rules.proofs.Memory.{taken-memory}
+use Rattle.rules.specs.Tested.{Memory}
 use Rattle.rules.proofs.Least.{Rules, least-one, least-from, closed-least}
 use Rattle.rules.proofs.WaitRow.{rowEnd, Delayed, delayed}
 use Rattle.rules.proofs.WaitFilter.{epoch-in, estimate-now, estimate-next}
@@ -174,15 +175,15 @@ either-filter P k a b = go (ℕ-discrete (k % 2) 0)
         let o : k % 2 ≡ 1 = omega arith in
         rw o b
 
-pub wait-is-least : (p : Policy) → WaitIsLeast p
+pub wait-is-least : (m : Limits) → WaitIsLeast m
 unfolding turned movedHead
-wait-is-least p s seeds st tick bank thread e at row =
-    let ok = taken p s seeds st tick bank thread e in
+wait-is-least m s seeds st tick bank thread e at row =
+    let ok = taken m s seeds st tick bank thread e in
     wait-least s at (turned s st tick) bank row (taken-memory ok) (ok .bank-in)
 
-pub wait-is-closed : (p : Policy) → WaitIsClosed p
-wait-is-closed p s seeds st tick bank thread e at row w0 w1 =
-    let ok = taken p s seeds st tick bank thread e in
+pub wait-is-closed : (m : Limits) → WaitIsClosed m
+wait-is-closed m s seeds st tick bank thread e at row w0 w1 =
+    let ok = taken m s seeds st tick bank thread e in
     wait-closed s at (turned s st tick) bank row (taken-memory ok) (ok .bank-in)
     (omega (arith, epoch-long (ok .setting))) (ok .setting .delay)
     (either-filter (λ f. Within (at f)) (epoch s ((turned s st tick) .head .last) + 1) w0 w1)

@@ -1,6 +1,7 @@
 -- The answers and refusals, with the numbers that document 01 gives them.
 use Prim.Native.Nat.{ℕ}
-use mathlib.Core.Bool.{Bool, true, false}
+use mathlib.Core.Bool.{Bool, true, false, cond}
+use lib.Dec.{eqb}
 use Rattle.rules.specs.declared.Cause.{Cause}
 use Rattle.rules.specs.declared.Cause.the-variants.{Bank, Rank, Row}
 use Rattle.rules.specs.declared.Answer.{Answer}
@@ -57,14 +58,4 @@ refuse false r rest = rest
 
 -- the earlier refusal, or the later one where there is none
 abbrev pub orElse : Refusal → Refusal → Refusal
-orElse none rest = rest
-orElse outOfRange rest = outOfRange
-orElse shortWindow rest = shortWindow
-orElse badDelay rest = badDelay
-orElse longHistory rest = longHistory
-orElse aboveLimit rest = aboveLimit
-orElse shortBuffer rest = shortBuffer
-orElse badMemory rest = badMemory
-orElse outsideSetting rest = outsideSetting
-orElse badTick rest = badTick
-orElse noneInFlight rest = noneInFlight
+orElse r rest = cond (eqb (refusalNumber r) 0) rest r

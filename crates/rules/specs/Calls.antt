@@ -5,6 +5,7 @@ use Prim.Native.Nat.{ℕ, _+_, _-_, _^_}
 use lib.Dec.{leb, ltb, eqb}
 use lib.ListN.{getD, set}
 use Rattle.rules.specs.declared.Setting.{Setting}
+use Rattle.rules.specs.declared.Limits.{Limits}
 use Rattle.rules.specs.declared.Answer.{Answer}
 use Rattle.rules.specs.declared.Answer.the-variants.{Opened, Wait, Quota}
 use Rattle.rules.specs.Cells.{count}
@@ -14,7 +15,8 @@ use Rattle.rules.specs.State.{State, threadCell, tooShort, fresh}
 use Rattle.rules.specs.Clock.{activeFilter, turned}
 use Rattle.rules.specs.Hash.{places}
 use Rattle.rules.specs.History.{memoryOk}
-use Rattle.rules.specs.Quota.{Policy, indexCounter}
+use Rattle.rules.specs.Quota.{indexCounter}
+use Rattle.rules.specs.Policy.{Policy}
 use Rattle.rules.specs.Decision.{decide, activated}
 
 -- "Four calls: set up, request a row, report a request done, read a thread's index." Set-up stands before the list of the others.
@@ -49,22 +51,22 @@ pub record Outcome : Type 0 where
   pub state : State
 
 -- "Set-up has no 7 to 10."
-unfoldable pub setupRefusal : Policy → Setting → List ℕ → State → Refusal
-setupRefusal p s seeds st = orElse (settingRefusal (p .limits) s seeds) (refuse (tooShort s st) shortBuffer none)
+unfoldable pub setupRefusal : Limits → Setting → List ℕ → State → Refusal
+setupRefusal m s seeds st = orElse (settingRefusal m s seeds) (refuse (tooShort s st) shortBuffer none)
 
 -- refusals 1 to 9 of a call with a tick, a bank and a thread
-unfoldable pub callRefusal : Policy → Setting → List ℕ → State → ℕ → ℕ → ℕ → Refusal
-callRefusal p s seeds st tick bank thread =
-    orElse (settingRefusal (p .limits) s seeds)
+unfoldable pub callRefusal : Limits → Setting → List ℕ → State → ℕ → ℕ → ℕ → Refusal
+callRefusal m s seeds st tick bank thread =
+    orElse (settingRefusal m s seeds)
     (refuse (tooShort s st) shortBuffer
     (refuse (not (memoryOk s st)) badMemory
     (refuse (leb (s .banks) bank || leb (s .threads) thread) outsideSetting
     (refuse (ltb tick (st .head .last) || leb (2 ^ 62) tick) badTick none))))
 
 -- and 10, by the bank's own count
-unfoldable pub doneRefusal : Policy → Setting → List ℕ → State → ℕ → ℕ → ℕ → Refusal
-doneRefusal p s seeds st tick bank thread =
-    orElse (callRefusal p s seeds st tick bank thread)
+unfoldable pub doneRefusal : Limits → Setting → List ℕ → State → ℕ → ℕ → ℕ → Refusal
+doneRefusal m s seeds st tick bank thread =
+    orElse (callRefusal m s seeds st tick bank thread)
     (refuse (eqb (getD (st .threads) (threadCell s bank thread 2) 0) 0) noneInFlight none)
 
 -- "It returns its number only and changes nothing."
@@ -78,8 +80,8 @@ afterAnswer (Wait c u) before opened = before
 afterAnswer Quota before opened = before
 
 -- set-up: "Set-up clears the used parts and the head"
-unfoldable pub setup : Policy → Setting → List ℕ → State → Outcome
-setup p s seeds st = unlessRefused (setupRefusal p s seeds st) st (record { reply = finished; state = fresh s st })
+unfoldable pub setup : Limits → Setting → List ℕ → State → Outcome
+setup m s seeds st = unlessRefused (setupRefusal m s seeds st) st (record { reply = finished; state = fresh s st })
 
 -- a request on the state turned to its tick; at f gives the row's places in filter f
 unfoldable pub requested : Policy → Setting → (ℕ → List ℕ) → State → ℕ → ℕ → ℕ → Outcome
@@ -107,14 +109,38 @@ indexShown p s st bank thread =
     let c = indexCounter s (st .threads) bank thread (activeFilter s (st .head .last)) in
     record { reply = shown c (indexScale s) (p .quota s c); state = st }
 
--- one call. "A call that is not refused moves the last tick to its tick t."
+-- the tick, the bank and the thread that a call names
+abbrev pub callTick : Call → ℕ
+callTick (request t b th r) = t
+callTick (done t b th) = t
+callTick (index t b th) = t
+
+abbrev pub callBank : Call → ℕ
+callBank (request t b th r) = b
+callBank (done t b th) = b
+callBank (index t b th) = b
+
+abbrev pub callThread : Call → ℕ
+callThread (request t b th r) = th
+callThread (done t b th) = th
+callThread (index t b th) = th
+
+-- what a call that is not refused does: "A call that is not refused moves the last tick to its tick t."
+-- own f are the seeds of filter f once the clock has moved
+abbrev pub performed : Policy → Setting → (ℕ → List ℕ) → State → Call → Outcome
+performed p s own st (request t b th r) = requested p s (λ f. places (own f) r) (turned s st t) b th r
+performed p s own st (done t b th) = reported s (turned s st t) b th
+performed p s own st (index t b th) = indexShown p s (turned s st t) b th
+
+-- the refusal of a call, none where it is answered
+abbrev pub refusalOf : Limits → Setting → List ℕ → State → Call → Refusal
+refusalOf m s seeds st (request t b th r) = callRefusal m s seeds st t b th
+refusalOf m s seeds st (done t b th) = doneRefusal m s seeds st t b th
+refusalOf m s seeds st (index t b th) = callRefusal m s seeds st t b th
+
+-- one call: a refusal, or what is performed
 unfoldable pub step : Policy → Setting → List ℕ → State → Call → Outcome
-step p s seeds st (request t b th r) =
-    unlessRefused (callRefusal p s seeds st t b th) st (requested p s (λ f. places seeds r) (turned s st t) b th r)
-step p s seeds st (done t b th) =
-    unlessRefused (doneRefusal p s seeds st t b th) st (reported s (turned s st t) b th)
-step p s seeds st (index t b th) =
-    unlessRefused (callRefusal p s seeds st t b th) st (indexShown p s (turned s st t) b th)
+step p s seeds st c = unlessRefused (refusalOf (p .limits) s seeds st c) st (performed p s (λ f. seeds) st c)
 
 -- the replies of a list of calls, refused ones included, and the state that it leaves
 abbrev pub replies : Policy → Setting → List ℕ → State → List Call → List Reply
@@ -129,11 +155,12 @@ after p s seeds st (c ∷ cs) = after p s seeds ((step p s seeds st c) .state) c
 pub record Activation : Type 0 where
   pub tick : ℕ
   pub bank : ℕ
+  pub thread : ℕ
   pub row : ℕ
 
 -- "an opening is a request of the list answered opened, at that request's tick"
 abbrev pub activationOf : Call → Reply → List Activation
-activationOf (request t b th r) (answered Opened) = record { tick = t; bank = b; row = r } ∷ []
+activationOf (request t b th r) (answered Opened) = record { tick = t; bank = b; thread = th; row = r } ∷ []
 activationOf (request t b th r) (answered (Wait c u)) = []
 activationOf (request t b th r) (answered Quota) = []
 activationOf (request t b th r) (refused n) = []

@@ -7,17 +7,20 @@ use Prim.Native.Nat.{ℕ, _+_, _-_, _*_, _/_, _%_, _^_, _≤_, _<_, min, max}
 use lib.Dec.{T, leb, ltb, eqb}
 use lib.ListN.{getD}
 use Rattle.rules.specs.declared.Setting.{Setting}
+use Rattle.rules.specs.declared.Limits.{Limits}
 use Rattle.rules.specs.declared.Answer.the-variants.{Opened}
 use Rattle.rules.specs.Cells.{ceilDiv, All}
 use Rattle.rules.specs.Answers.{none, shortBuffer, badMemory}
-use Rattle.rules.specs.Setting.{epochLength, historyLength}
-use Rattle.rules.specs.State.{State, rowWord, fresh, headWords}
+use Rattle.rules.specs.Setting.{epochLength, historyLength, seedsInRange}
+use Rattle.rules.specs.State.{State, threadsUsed, threadCell, rowWord, fresh, headWords}
 use Rattle.rules.specs.Clock.{epoch, turned}
 use Rattle.rules.specs.Filter.{Within, estimate}
 use Rattle.rules.specs.History.{find}
-use Rattle.rules.specs.Quota.{Policy, document01}
+use Rattle.rules.specs.Policy.{Policy, inForce}
+use Rattle.rules.specs.Tested.{Accepted}
 use Rattle.rules.specs.Decision.{activeEstimate, rowRule, passesAt, waitTick}
-use Rattle.rules.specs.Calls.{Call, request, done, index, refused, answered, setupRefusal, callRefusal, step, replies, after, activations, timesActivated}
+use Rattle.rules.specs.Calls.{Call, request, done, index, refused, answered, setupRefusal, callRefusal, step, replies, after, activationOf, activations, timesActivated}
+use Rattle.rules.specs.Moves.{Move, AllAllowed, madeBy, Moves}
 
 -- ---- demand 3 and spans of every length
 
@@ -30,17 +33,35 @@ unfoldable pub spanBound : Setting → ℕ → ℕ
 spanBound s x =
     cond (leb (freeMost s x * s .trc) (x - 1)) (freeMost s x + 1 + (x - 1 - freeMost s x * s .trc) / s .td) (1 + (x - 1) / s .trc)
 
+-- A row's activations in x successive ticks, for every list of moves after a set-up that is not refused, whatever seeds the filters start
+-- with. Every list of calls is such a list of moves (`StepMoves`); a call that a later request adds has only to be shown to be moves.
+abbrev pub SpansOfMoves : Limits → Type 0
+SpansOfMoves m =
+    (s : Setting) (seeds : List ℕ) (before : State) → setupRefusal m s seeds before ≡ none
+    → (own : ℕ → List ℕ) → ((f : ℕ) → f < 2 → T (seedsInRange (own f)))
+    → (vs : List Move) → AllAllowed s (record { state = fresh s before; own = own }) vs
+    → (bank row start x : ℕ) → 1 ≤ x
+    → timesActivated bank row start x (madeBy s (record { state = fresh s before; own = own }) vs) ≤ spanBound s x
+
+-- A call is moves: from the state with the setting's seeds in both filters to the state that it leaves, with the activations that its
+-- reply tells.
+abbrev pub StepMoves : Policy → Type 0
+StepMoves p =
+    (s : Setting) (seeds : List ℕ) (st : State) (c : Call)
+    → Moves s (record { state = st; own = λ f. seeds }) (record { state = step p s seeds st c .state; own = λ f. seeds })
+    (activationOf c (step p s seeds st c .reply))
+
 -- A row's activations in x successive ticks, for every list of calls after a set-up that is not refused, with any seeds and any contents before.
 abbrev pub Spans : Policy → Type 0
 Spans p =
-    (s : Setting) (seeds : List ℕ) (before : State) → setupRefusal p s seeds before ≡ none
+    (s : Setting) (seeds : List ℕ) (before : State) → setupRefusal (p .limits) s seeds before ≡ none
     → (cs : List Call) (bank row start x : ℕ) → 1 ≤ x
     → timesActivated bank row start x (activations cs (replies p s seeds (fresh s before) cs)) ≤ spanBound s x
 
 -- Demand 3: "no row of any bank is opened more than L times in any W successive ticks".
 abbrev pub Demand3 : Policy → Type 0
 Demand3 p =
-    (s : Setting) (seeds : List ℕ) (before : State) → setupRefusal p s seeds before ≡ none
+    (s : Setting) (seeds : List ℕ) (before : State) → setupRefusal (p .limits) s seeds before ≡ none
     → (cs : List Call) (bank row start : ℕ)
     → timesActivated bank row start (s .w) (activations cs (replies p s seeds (fresh s before) cs)) ≤ s .l
 
@@ -53,9 +74,9 @@ pub record Least (p : ℕ → Bool) (v u : ℕ) : Type 0 where
   pub first : (x : ℕ) → v ≤ x → x < u → T (not (p x))
 
 -- For every state on which a call is not refused, reachable or not, and any places of the row: the wait tick is the least passing tick.
-abbrev pub WaitIsLeast : Policy → Type 0
-WaitIsLeast p =
-    (s : Setting) (seeds : List ℕ) (st : State) (t bank thread : ℕ) → callRefusal p s seeds st t bank thread ≡ none
+abbrev pub WaitIsLeast : Limits → Type 0
+WaitIsLeast m =
+    (s : Setting) (seeds : List ℕ) (st : State) (t bank thread : ℕ) → callRefusal m s seeds st t bank thread ≡ none
     → (at : ℕ → List ℕ) (row : ℕ) → Least (passesAt s at (turned s st t) bank row) t (waitTick s at (turned s st t) bank row)
 
 -- The closed form, from numbers: the end of the epoch, the first tick m that bank and rank rules allow, the tick d at which the newest
@@ -83,9 +104,9 @@ closedWait s at st bank row =
     (estimate (st .counters) bank f (at f))
 
 -- For every such state and places within a filter. A place of 1,024 or more would name a counter of another filter, cleared at another turn.
-abbrev pub WaitIsClosed : Policy → Type 0
-WaitIsClosed p =
-    (s : Setting) (seeds : List ℕ) (st : State) (t bank thread : ℕ) → callRefusal p s seeds st t bank thread ≡ none
+abbrev pub WaitIsClosed : Limits → Type 0
+WaitIsClosed m =
+    (s : Setting) (seeds : List ℕ) (st : State) (t bank thread : ℕ) → callRefusal m s seeds st t bank thread ≡ none
     → (at : ℕ → List ℕ) (row : ℕ) → Within (at 0) → Within (at 1) → waitTick s at (turned s st t) bank row ≡ closedWait s at (turned s st t) bank row
 
 -- ---- what is never held or refused
@@ -94,17 +115,28 @@ WaitIsClosed p =
 abbrev pub BelowThreshold : Type 0
 BelowThreshold = (s : Setting) (at : ℕ → List ℕ) (st : State) (bank row : ℕ) → activeEstimate s at st bank < s .n → T (rowRule s at st bank row)
 
+-- What the claims about every policy ask of its quota and of what in flight means to it: a quota of at most 255, and of 1 or more while
+-- the index counter is 0, under a setting that its limits accept; none in flight where the thread counters are 0, and never fewer than
+-- the named bank's own count.
+pub record Regular (p : Policy) : Type 0 where
+  pub quotaMost : (s : Setting) (seeds : List ℕ) → Accepted (p .limits) s seeds → (c : ℕ) → p .quota s c ≤ 255
+  pub quotaFirst : (s : Setting) (seeds : List ℕ) → Accepted (p .limits) s seeds → 1 ≤ p .quota s 0
+  pub noneFlying : (s : Setting) (threads : List ℕ) (bank thread : ℕ) → bank < s .banks → thread < s .threads
+      → ((i : ℕ) → i < threadsUsed s → getD threads i 0 ≡ 0) → p .inFlight s threads bank thread ≡ 0
+  pub ownFlying : (s : Setting) (threads : List ℕ) (bank thread : ℕ) → bank < s .banks → thread < s .threads
+      → getD threads (threadCell s bank thread 2) 0 ≤ p .inFlight s threads bank thread
+
 -- A first request after set-up, with bank and thread of the setting and a tick below 2^62, is opened.
-abbrev pub FirstOpened : Type 0
-FirstOpened =
-    (s : Setting) (seeds : List ℕ) (before : State) → setupRefusal document01 s seeds before ≡ none
+abbrev pub FirstOpened : Policy → Type 0
+FirstOpened p =
+    (s : Setting) (seeds : List ℕ) (before : State) → setupRefusal (p .limits) s seeds before ≡ none
     → (t bank thread row : ℕ) → t < 2 ^ 62 → bank < s .banks → thread < s .threads
-    → (step document01 s seeds (fresh s before) (request t bank thread row)) .reply ≡ answered Opened
+    → (step p s seeds (fresh s before) (request t bank thread row)) .reply ≡ answered Opened
 
 -- No call of a list after set-up is refused with 6 or 7.
 abbrev pub NeverMemory : Policy → Type 0
 NeverMemory p =
-    (s : Setting) (seeds : List ℕ) (before : State) → setupRefusal p s seeds before ≡ none
+    (s : Setting) (seeds : List ℕ) (before : State) → setupRefusal (p .limits) s seeds before ≡ none
     → (cs : List Call) → All (λ r. (r ≢ refused shortBuffer) × (r ≢ refused badMemory)) (replies p s seeds (fresh s before) cs)
 
 -- ---- widths
@@ -128,26 +160,29 @@ RowFits (done t b th) = Unit {0}
 RowFits (index t b th) = Unit {0}
 
 -- Stored cells stay within their widths, for counters of any width w with N below 2^w: after a call on any contents ..
-abbrev pub StepFits : Type 0
-StepFits =
+abbrev pub StepFits : Policy → Type 0
+StepFits p =
     (w : ℕ) (s : Setting) (seeds : List ℕ) (st : State) (c : Call) → s .n < 2 ^ w → Stored w st → RowFits c
-    → Stored w ((step document01 s seeds st c) .state)
+    → Stored w ((step p s seeds st c) .state)
 
 -- .. and after any list of calls.
-abbrev pub RunFits : Type 0
-RunFits =
+abbrev pub RunFits : Policy → Type 0
+RunFits p =
     (w : ℕ) (s : Setting) (seeds : List ℕ) (before : State) (cs : List Call) → s .n < 2 ^ w → Stored w before → All RowFits cs
-    → Stored w (after document01 s seeds (fresh s before) cs)
+    → Stored w (after p s seeds (fresh s before) cs)
 
 -- ---- all of it
 
 pub record Theorems : Type 0 where
+  pub spansOfMoves : (m : Limits) → SpansOfMoves m
+  pub stepMoves : (p : Policy) → StepMoves p
   pub spans : (p : Policy) → Spans p
   pub demand3 : (p : Policy) → Demand3 p
-  pub waitIsLeast : (p : Policy) → WaitIsLeast p
-  pub waitIsClosed : (p : Policy) → WaitIsClosed p
+  pub waitIsLeast : (m : Limits) → WaitIsLeast m
+  pub waitIsClosed : (m : Limits) → WaitIsClosed m
   pub belowThreshold : BelowThreshold
-  pub firstOpened : FirstOpened
   pub neverMemory : (p : Policy) → NeverMemory p
-  pub stepFits : StepFits
-  pub runFits : RunFits
+  pub firstOpened : (p : Policy) → Regular p → FirstOpened p
+  pub stepFits : (p : Policy) → Regular p → StepFits p
+  pub runFits : (p : Policy) → Regular p → RunFits p
+  pub inForceRegular : (m : Limits) → Regular (inForce m)

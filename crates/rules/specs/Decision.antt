@@ -15,7 +15,8 @@ use Rattle.rules.specs.State.{State, threadCell, rowWord, cells}
 use Rattle.rules.specs.Clock.{activeFilter, turned}
 use Rattle.rules.specs.Filter.{estimate, blacklisted, raised, counted}
 use Rattle.rules.specs.History.{nextPlace, rowFree}
-use Rattle.rules.specs.Quota.{Policy, indexCounter}
+use Rattle.rules.specs.Quota.{indexCounter}
+use Rattle.rules.specs.Policy.{Policy}
 
 -- "Quota if in flight is not below the quota." The rule passes where it is below.
 abbrev pub quotaRule : Policy → Setting → State → ℕ → ℕ → Bool

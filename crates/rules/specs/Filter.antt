@@ -2,7 +2,7 @@
 use mathlib.Core.List.{List, map}
 use mathlib.Core.Bool.{Bool, _||_, cond}
 use Prim.Native.Nat.{ℕ, _+_, _<_, min}
-use lib.Dec.{leb, ltb}
+use lib.Dec.{leb, ltb, eqb}
 use lib.ListN.{getD}
 use Rattle.rules.specs.Cells.{member, mapCells}
 use Rattle.rules.specs.State.{counterCell}
@@ -13,6 +13,10 @@ pub record Within (at : List ℕ) : Type 0 where
   pub second : getD at 1 0 < 1024
   pub third : getD at 2 0 < 1024
   pub fourth : getD at 3 0 < 1024
+
+-- the places of a row in filter 0 and in filter 1, by filter
+abbrev pub two : List ℕ → List ℕ → ℕ → List ℕ
+two a b f = cond (eqb f 0) a b
 
 -- the counter at the k-th of a row's places in filter f
 abbrev pub counterAt : List ℕ → ℕ → ℕ → List ℕ → ℕ → ℕ

@@ -7,7 +7,10 @@ pub mod Hash
 pub mod Filter
 pub mod History
 pub mod Quota
+pub mod Policy
 pub mod Decision
+pub mod Tested
 pub mod Calls
+pub mod Moves
 pub mod Claims
 pub mod Samples

@@ -5,6 +5,7 @@ use Prim.Native.Nat.{ℕ, _+_, _-_, _*_, _/_, _%_, _^_}
 use lib.Dec.{leb, ltb, eqb}
 use lib.ListN.{length, getD}
 use Rattle.rules.specs.declared.Setting.{Setting}
+use Rattle.rules.specs.declared.Limits.{Limits}
 use Rattle.rules.specs.Cells.{ceilDiv, between, every}
 use Rattle.rules.specs.Answers.{Refusal, none, outOfRange, shortWindow, badDelay, longHistory, aboveLimit, refuse}
 
@@ -38,11 +39,6 @@ rowBound s = 2 * s .n + 1 + (s .w - 1 - 2 * s .n * s .trc) / s .td
 -- "D = L − N", the full scale of the RowHammer likelihood index
 abbrev pub indexScale : Setting → ℕ
 indexScale s = s .l - s .n
-
--- The limits of the table that a card or a later version may set otherwise: the greatest N and the greatest H.
-pub record Limits : Type 0 where
-  pub threshold : ℕ
-  pub history : ℕ
 
 -- the table's ranges, in its order
 unfoldable pub fieldsInRange : Limits → Setting → Bool

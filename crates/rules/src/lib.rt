@@ -27,6 +27,12 @@ pub struct Setting {
     pub threads: u64,
 }
 
+// The limits of the setting that differ from width to width: the greatest N and the greatest H.
+pub struct Limits {
+    pub threshold: u64,
+    pub history: u64,
+}
+
 // The state head of document 01. A stored tick is the tick plus one, and 0 means none.
 pub struct Head {
     // The last tick, stored as it is.
