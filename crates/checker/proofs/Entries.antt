@@ -10,9 +10,9 @@ use Rattle.rules.specs.declared.Head.{Head}
 use Rattle.rules.specs.declared.Answer.{Answer}
 use Rattle.rules.specs.Answers.{answerNumber, answerWait}
 use Rattle.rules.specs.State.{State}
-use Rattle.rules.specs.Quota.{document01}
+use Rattle.rules.specs.Policy.{document01}
 use Rattle.rules.specs.Calls.{request, done, Reply, answered, finished, Outcome, returnCode, step}
-use Rattle.rules.proofs.Sound.{Sound}
+use Rattle.rules.specs.Tested.{Sound}
 use Rattle.throttle.specs.Told.{Told, Over}
 use Rattle.log.specs.declared.Entry.{Entry}
 use Rattle.log.specs.Verdict.{Step, over, on, openedBy, counted, differsHere, judgeRecord}

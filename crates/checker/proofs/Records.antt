@@ -7,7 +7,7 @@ use native.Mathlib.Omega.{arith}
 use Rattle.rules.specs.declared.Setting.{Setting}
 use Rattle.rules.specs.declared.Head.{Head}
 use Rattle.rules.specs.State.{State}
-use Rattle.rules.proofs.Sound.{Sound}
+use Rattle.rules.specs.Tested.{Sound}
 use Rattle.log.specs.declared.Entry.{Entry}
 use Rattle.log.specs.Contents.{entryIn, entriesFrom}
 use Rattle.log.specs.Verdict.{Running, Step, on, judgeRecord, judgeRecords}

@@ -12,10 +12,11 @@ use Rattle.rules.specs.Cells.{mapFrom, clearCells}
 use Rattle.rules.specs.Answers.{Refusal, none, shortBuffer, refusalNumber, refuse}
 use Rattle.rules.specs.Setting.{historyLength, settingRefusal}
 use Rattle.rules.specs.State.{countersUsed, threadsUsed, tooShort, fresh}
-use Rattle.rules.specs.Quota.{limits01, document01}
+use Rattle.rules.specs.Policy.{limits01, document01}
 use Rattle.rules.specs.Calls.{setupRefusal}
 use Rattle.rules.proofs.Accept.{accepted, number-none, first-refusal, set-up}
-use Rattle.rules.proofs.Sound.{Sound, fresh-sound}
+use Rattle.rules.proofs.Sound.{fresh-sound}
+use Rattle.rules.specs.Tested.{Sound}
 use Rattle.log.specs.Refusals.{model}
 use Rattle.log.specs.Contents.{settingIn, seedsIn}
 use Rattle.log.specs.Verdict.{refusedAfter, over, on, memory, setUp, judgeStart}

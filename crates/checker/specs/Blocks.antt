@@ -5,8 +5,8 @@ use mathlib.Core.Bool.{Bool, false}
 use Prim.Native.Nat.{ℕ, _+_, _*_, _^_, _≤_}
 use Rattle.rules.specs.Answers.{none}
 use Rattle.rules.specs.Setting.{settingRefusal}
-use Rattle.rules.specs.Quota.{limits01}
-use Rattle.rules.proofs.Sound.{Sound}
+use Rattle.rules.specs.Policy.{limits01}
+use Rattle.rules.specs.Tested.{Sound}
 use Rattle.rules.specs.State.{state}
 use Rattle.log.specs.Verdict.{Running, Step, memory}
 use Rattle.checker.specs.declared.Report.{Report}

@@ -7,7 +7,7 @@ use lib.Dec.{eqb}
 use Rattle.rules.specs.declared.Setting.{Setting}
 use Rattle.rules.specs.declared.Head.{Head}
 use Rattle.rules.specs.State.{State}
-use Rattle.rules.proofs.Sound.{Sound}
+use Rattle.rules.specs.Tested.{Sound}
 use Rattle.log.specs.declared.Entry.{Entry}
 use Rattle.log.specs.Refusals.{logRefusalNumber}
 use Rattle.log.specs.Verdict.{agrees, differs, Verdict, refusedAfter, judged, Progress as LogProgress, Running, Step, over, on}

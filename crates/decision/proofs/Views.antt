@@ -13,11 +13,11 @@ use Rattle.rules.specs.State.{State, rowWord}
 use Rattle.rules.specs.Clock.{epoch, activeFilter}
 use Rattle.rules.specs.Filter.{Within, estimate}
 use Rattle.rules.specs.History.{rowFree}
-use Rattle.rules.specs.Quota.{document01}
+use Rattle.rules.specs.Policy.{document01}
 use Rattle.rules.specs.Decision.{quotaRule, bankRule, rankRule, rowRule, waitTick, firstFailing, decide}
 use Rattle.rules.specs.Claims.{closedTick, closedWait}
 use Rattle.rules.proofs.Tests.{is-true, is-false}
-use Rattle.rules.proofs.Memory.{Memory}
+use Rattle.rules.specs.Tested.{Memory}
 use Rattle.rules.proofs.Wait.{wait-closed}
 use Rattle.rules.proofs.WaitRow.{Delayed, delayed}
 use Rattle.decision.specs.declared.View.{View}

@@ -12,9 +12,10 @@ use Rattle.rules.specs.declared.Setting.{Setting}
 use Rattle.rules.specs.Answers.{Refusal, none, refusalNumber}
 use Rattle.rules.specs.Setting.{settingRefusal, historyLength}
 use Rattle.rules.specs.State.{tooShort}
-use Rattle.rules.specs.Quota.{limits01, document01}
+use Rattle.rules.specs.Policy.{limits01, document01}
 use Rattle.rules.specs.Calls.{setupRefusal}
-use Rattle.rules.proofs.Accept.{Accepted, accepted, number-none, orElse-none}
+use Rattle.rules.proofs.Accept.{accepted, number-none, orElse-none}
+use Rattle.rules.specs.Tested.{Accepted}
 use Rattle.log.specs.Bytes.{blockAt, blocksFrom}
 use Rattle.log.specs.Refusals.{model, sound, cut}
 use Rattle.log.specs.Contents.{settingIn, seedsIn}

@@ -10,7 +10,7 @@ use lib.ListN.{length, getD}
 use Rattle.rules.specs.Cells.{every}
 use Rattle.rules.specs.Answers.{none}
 use Rattle.rules.specs.Setting.{settingOf, settingRefusal}
-use Rattle.rules.specs.Quota.{limits01}
+use Rattle.rules.specs.Policy.{limits01}
 use Rattle.rules.proofs.Tests.{and-l, and-r, holds}
 use Rattle.rules.proofs.Places.{seeds-long}
 use Rattle.rules.proofs.Accept.{accepted}

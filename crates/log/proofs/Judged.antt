@@ -9,7 +9,7 @@ use lib.ListN.{length, length-append}
 use borrow.Author.Tests.{ne-eqb, eqb-true}
 use Rattle.rules.specs.Answers.{Refusal, refusalNumber}
 use Rattle.rules.specs.State.{State}
-use Rattle.rules.specs.Quota.{document01}
+use Rattle.rules.specs.Policy.{document01}
 use Rattle.rules.specs.Calls.{Reply, refused, answered, finished, shown, setupRefusal, after}
 use Rattle.rules.proofs.Accept.{number-none}
 use Rattle.log.specs.declared.Entry.{Entry}

@@ -12,7 +12,7 @@ use Rattle.rules.specs.declared.Setting.{Setting}
 use Rattle.rules.specs.declared.Answer.the-variants.{Opened, Wait, Quota}
 use Rattle.rules.specs.Answers.{refusalNumber}
 use Rattle.rules.specs.State.{State}
-use Rattle.rules.specs.Quota.{document01}
+use Rattle.rules.specs.Policy.{document01}
 use Rattle.rules.specs.Calls.{Call, request, done, Reply, refused, answered, finished, shown, Outcome, step, replies, after, activationOf, activations, unlessRefused, reported, doneRefusal}
 use Rattle.rules.specs.Clock.{turned}
 use Rattle.rules.proofs.Tests.{and-l, and-r, holds}

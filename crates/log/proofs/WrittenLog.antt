@@ -11,9 +11,10 @@ use lib.Seq.{sets, length-sets, ext-getD, take-at, drop-at}
 use borrow.Author.Tests.{le-leb}
 use Rattle.rules.specs.Cells.{All}
 use Rattle.rules.specs.Setting.{settingOf}
-use Rattle.rules.specs.Quota.{limits01}
+use Rattle.rules.specs.Policy.{limits01}
 use Rattle.rules.proofs.Places.{seed-small, seeds-long}
-use Rattle.rules.proofs.Accept.{Accepted, accepted}
+use Rattle.rules.proofs.Accept.{accepted}
+use Rattle.rules.specs.Tested.{Accepted}
 use Rattle.log.specs.declared.Entry.{Entry}
 use Rattle.log.specs.Bytes.{little, zeros, blockAt, blocksFrom}
 use Rattle.log.specs.Refusals.{sound}

@@ -8,7 +8,7 @@ use Rattle.rules.specs.Cells.{All}
 use Rattle.rules.specs.Answers.{none, answerNumber, answerWait}
 use Rattle.rules.specs.Setting.{settingOf, settingRefusal}
 use Rattle.rules.specs.State.{fresh}
-use Rattle.rules.specs.Quota.{limits01, document01}
+use Rattle.rules.specs.Policy.{limits01, document01}
 use Rattle.rules.specs.Calls.{Call, Reply, refused, answered, finished, shown, replies, activations}
 use Rattle.log.specs.declared.Entry.{Entry}
 use Rattle.log.specs.Bytes.{blockAt, blocksFrom}

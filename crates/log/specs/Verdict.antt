@@ -8,7 +8,7 @@ use Rattle.rules.specs.declared.Setting.{Setting}
 use Rattle.rules.specs.declared.Answer.the-variants.{Opened, Wait, Quota}
 use Rattle.rules.specs.Answers.{Refusal, refusalNumber, answerNumber, answerWait}
 use Rattle.rules.specs.State.{State, freshHead, fresh}
-use Rattle.rules.specs.Quota.{document01}
+use Rattle.rules.specs.Policy.{document01}
 use Rattle.rules.specs.Calls.{Reply, refused, answered, finished, shown, setupRefusal, step}
 use Rattle.log.specs.declared.Entry.{Entry}
 use Rattle.log.specs.Bytes.{blocksFrom}

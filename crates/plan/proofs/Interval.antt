@@ -5,8 +5,9 @@ use native.Mathlib.Omega.{arith}
 use native.Mathlib.Nat.{le-trans, le-max-left, le-max-right, max-le, min-le-left, min-le-right, le-min}
 use Rattle.rules.specs.declared.Setting.{Setting}
 use Rattle.rules.specs.Setting.{epochLength, historyLength, rowBound}
-use Rattle.rules.specs.Quota.{limits01}
-use Rattle.rules.proofs.Accept.{Accepted, accepted}
+use Rattle.rules.specs.Policy.{limits01}
+use Rattle.rules.proofs.Accept.{accepted}
+use Rattle.rules.specs.Tested.{Accepted}
 use Rattle.plan.specs.Delays.{withDelay, someSeeds, delayRefusal, AcceptedDelay, InRange, Bounded}
 use Rattle.plan.specs.Plan.{smallestDelay, leastDelay, greatestDelay}
 use Rattle.plan.proofs.Numbers.{bound-met, bound-missed, bound-least, history-short, history-limit}

@@ -9,9 +9,10 @@ use borrow.Author.Tests.{le-leb, le-ltb, ltb-false}
 use Rattle.rules.specs.declared.Setting.{Setting}
 use Rattle.rules.specs.Answers.{Refusal, none, outOfRange, shortWindow, badDelay, longHistory, aboveLimit, refusalNumber, refuse}
 use Rattle.rules.specs.Setting.{epochLength, historyLength, rowBound, fieldsInRange, seedsInRange, settingRefusal}
-use Rattle.rules.specs.Quota.{limits01}
+use Rattle.rules.specs.Policy.{limits01}
 use Rattle.rules.proofs.Tests.{is-true, and-l, not-not}
-use Rattle.rules.proofs.Accept.{Ranges, ranges, refuse-none}
+use Rattle.rules.proofs.Accept.{ranges, refuse-none}
+use Rattle.rules.specs.Tested.{Ranges}
 use Rattle.plan.specs.Delays.{withDelay, withThreshold, someSeeds, delayRefusal, InRange}
 use Rattle.plan.specs.Claims.{SeedsPlayNoPart}
 

@@ -9,8 +9,8 @@ use borrow.Author.Tests.{ltb-true, ltb-false}
 use Rattle.rules.specs.declared.Setting.{Setting}
 use Rattle.rules.specs.Answers.{refusalNumber}
 use Rattle.rules.specs.Setting.{historyLength, rowBound}
-use Rattle.rules.specs.Quota.{limits01}
-use Rattle.rules.proofs.Accept.{Accepted}
+use Rattle.rules.specs.Policy.{limits01}
+use Rattle.rules.specs.Tested.{Accepted}
 use Rattle.plan.specs.declared.Plan.{Plan}
 use Rattle.plan.specs.declared.Plan.the-variants.{Between, Nothing}
 use Rattle.plan.specs.Delays.{withDelay, withThreshold, someSeeds, delayRefusal, AcceptedDelay, Ends, Says}

@@ -5,7 +5,7 @@ use Prim.Native.Nat.{ℕ, _-_, _*_, _≤_, _<_}
 use lib.Dec.{T}
 use Rattle.rules.specs.declared.Setting.{Setting}
 use Rattle.rules.specs.Setting.{historyLength, rowBound, seedsInRange, settingRefusal}
-use Rattle.rules.specs.Quota.{limits01}
+use Rattle.rules.specs.Policy.{limits01}
 use Rattle.plan.specs.declared.Plan.{Plan}
 use Rattle.plan.specs.declared.Plan.the-variants.{Between, Nothing}
 use Rattle.plan.specs.Delays.{withDelay, withThreshold, delayRefusal, AcceptedDelay, Says}

@@ -7,7 +7,7 @@ use lib.ListN.{replicate}
 use Rattle.rules.specs.declared.Setting.{Setting}
 use Rattle.rules.specs.Answers.{Refusal, none, outOfRange, shortWindow, refusalNumber}
 use Rattle.rules.specs.Setting.{rowBound, settingRefusal}
-use Rattle.rules.specs.Quota.{limits01}
+use Rattle.rules.specs.Policy.{limits01}
 use Rattle.plan.specs.declared.Plan.{Plan}
 use Rattle.plan.specs.declared.Plan.the-variants.{Between, Nothing}
 

@@ -1,7 +1,6 @@
 // The words of the command line as numbers.
 ghost use mathlib.Core.Path.{_≡_};
-ghost use Rattle.plan_settings.specs.Decimal.{numberOf};
-ghost use Rattle.plan_settings.specs.Decimal.{wrong as Decimal·wrong};
+ghost use Rattle.plan_settings.specs.Decimal.{numberOf, wrong as Decimal·wrong};
 
 // A number, or no number where ok is false.
 pub struct Number {

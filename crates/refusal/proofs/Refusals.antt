@@ -15,7 +15,7 @@ use Rattle.rules.specs.Answers.{Refusal, none, outOfRange, shortWindow, badDela
 use Rattle.rules.specs.Setting.{historyLength, settingRefusal}
 use Rattle.rules.specs.State.{State, countersUsed, threadsUsed, tooShort, threadCell}
 use Rattle.rules.specs.History.{notAfter, neverRises, memoryOk}
-use Rattle.rules.specs.Quota.{limits01, document01}
+use Rattle.rules.specs.Policy.{limits01, document01}
 use Rattle.rules.specs.Calls.{setupRefusal, callRefusal, doneRefusal}
 use Rattle.rules.proofs.Tests.{every-at, every-all, is-false, is-true}
 use Rattle.rules.proofs.Accept.{number-none}

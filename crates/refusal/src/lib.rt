@@ -10,7 +10,7 @@ ghost use Rattle.rules.specs.Answers.{none, shortBuffer, noneInFlight, refusalN
 ghost use Rattle.rules.specs.Setting.{historyLength, settingRefusal};
 ghost use Rattle.rules.specs.State.{threadsUsed, threadCell, state};
 ghost use Rattle.rules.specs.History.{notAfter};
-ghost use Rattle.rules.specs.Quota.{limits01, document01};
+ghost use Rattle.rules.specs.Policy.{limits01, document01};
 ghost use Rattle.rules.specs.Calls.{callRefusal, doneRefusal};
 ghost use Rattle.refusal.specs.Tests.{memoryTest, shortTest, placeRefusal};
 

@@ -11,28 +11,21 @@ use lib.ListN.{getD}
 use borrow.Author.Tests.{eq-eqb, lt-ltb}
 use Rattle.rules.specs.declared.Setting.{Setting}
 use Rattle.rules.specs.Cells.{ceilDiv, every}
-use Rattle.rules.specs.Setting.{Limits, rowBound, fieldsInRange, seedsInRange}
+use Rattle.rules.specs.Setting.{rowBound, fieldsInRange, seedsInRange}
+use Rattle.rules.specs.declared.Limits.{Limits}
 use Rattle.rules.proofs.Tests.{and-i, and-l, and-r, holds, same-test}
-use Rattle.rules.proofs.Accept.{Ranges, ranges}
+use Rattle.rules.proofs.Accept.{ranges}
+use Rattle.rules.specs.Tested.{Ranges}
 
 -- ---- the fields
 
 -- the test of refusal 1 does not hold: the fields and the seeds are in range
-abbrev pub inRange : ℕ → ℕ → Setting → List ℕ → Bool
-inRange threshold history s seeds = fieldsInRange (record { threshold = threshold; history = history }) s && seedsInRange seeds
+abbrev pub inRange : Limits → Setting → List ℕ → Bool
+inRange m s seeds = fieldsInRange m s && seedsInRange seeds
 
 -- the ranges that the code's arithmetic needs
-pub in-ranges : (threshold history : ℕ) (s : Setting) (seeds : List ℕ) → inRange threshold history s seeds ≡ true
-    → Ranges (record { threshold = threshold; history = history }) s
-in-ranges threshold history s seeds e =
-    let m : Limits = record { threshold = threshold; history = history } in
-    ranges m s (and-l (fieldsInRange m s) (seedsInRange seeds) (holds (inRange threshold history s seeds) e))
-
--- the ranges of the fields do not depend on the greatest H
-pub fields-any : (threshold history : ℕ) (s : Setting)
-    → fieldsInRange (record { threshold = threshold; history = 0 }) s ≡ fieldsInRange (record { threshold = threshold; history = history }) s
-unfolding fieldsInRange
-fields-any threshold history s = refl
+pub in-ranges : (m : Limits) (s : Setting) (seeds : List ℕ) → inRange m s seeds ≡ true → Ranges m s
+in-ranges m s seeds e = ranges m s (and-l (fieldsInRange m s) (seedsInRange seeds) (holds (inRange m s seeds) e))
 
 -- ---- the seeds
 

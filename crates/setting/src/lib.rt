@@ -7,6 +7,7 @@ ghost use lib.Dec.{ltb};
 ghost use Rattle.rules.specs.Cells.{between, ceilDiv};
 ghost use Rattle.rules.specs.Answers.{refusalNumber};
 ghost use Rattle.rules.specs.Setting.{settingOf, epochLength, historyLength, rowBound, fieldsInRange, seedsInRange, settingRefusal};
+ghost use Rattle.rules.specs.Policy.{limits01};
 
 // The setting that the nine words hold, in the order of document 01's table.
 pub fn load(words: &[u64; 9]) -> rules::Setting
@@ -22,6 +23,16 @@ pub fn load(words: &[u64; 9]) -> rules::Setting
         q: words[6],
         banks: words[7],
         threads: words[8],
+    }
+}
+
+// The limits of the calls with 16-bit counters: N to 32,768, H to 4,096. They stand here and nowhere else in the code.
+pub fn narrow_limits() -> rules::Limits
+    ensures { λ r. ⌜ r ≡ limits01 ⌝ }
+{
+    rules::Limits {
+        threshold: 32768,
+        history: 4096,
     }
 }
 
@@ -46,14 +57,14 @@ fn and_within(before: bool, low: u64, high: u64, x: u64) -> bool
     and(before, within(low, high, x))
 }
 
-// Every field is in its range of the table, with this greatest N. The greatest H plays no part.
-fn fields_in_range(s: rules::Setting, threshold: u64) -> bool
-    ensures { λ r. ⌜ r ≡ fieldsInRange (record { threshold = threshold; history = 0 }) s ⌝ }
+// Every field is in its range of the table, with the greatest N of these limits.
+fn fields_in_range(m: rules::Limits, s: rules::Setting) -> bool
+    ensures { λ r. ⌜ r ≡ fieldsInRange m s ⌝ }
 {
     let w = and(within(2, 1073741824, s.w), s.w % 2 == 0);
     let trc = and_within(w, 1, 65535, s.trc);
     let tfaw = and_within(trc, 1, 65535, s.tfaw);
-    let n = and_within(tfaw, 1, threshold, s.n);
+    let n = and_within(tfaw, 1, m.threshold, s.n);
     let td = and_within(n, 1, 536870912, s.td);
     let l = and_within(td, 1, 16777216, s.l);
     let q = and_within(l, 1, 255, s.q);
@@ -121,12 +132,12 @@ fn above_limit(s: rules::Setting) -> bool
     (s.l - free) * s.td <= rest
 }
 
-// The number of the first of refusals 1 to 5 that the setting meets, or 0. The greatest N and the greatest H are the caller's.
-pub fn refusal(s: rules::Setting, seeds: &[u16], threshold: u64, history: u64) -> u32
-    requires { ⌜ threshold ≤ 2 ^ 20 ⌝ }
-    ensures { λ r. ⌜ r ≡ refusalNumber (settingRefusal (record { threshold = threshold; history = history }) s (now (seeds .entry))) ⌝ }
+// The number of the first of refusals 1 to 5 that the setting meets, or 0, with these limits.
+pub fn refusal(m: rules::Limits, s: rules::Setting, seeds: &[u16]) -> u32
+    requires { ⌜ m .threshold ≤ 2 ^ 20 ⌝ }
+    ensures { λ r. ⌜ r ≡ refusalNumber (settingRefusal m s (now (seeds .entry))) ⌝ }
 {
-    if !and(fields_in_range(s, threshold), seeds_in_range(seeds)) {
+    if !and(fields_in_range(m, s), seeds_in_range(seeds)) {
         return 1;
     }
     let window = short_window(s);
@@ -138,7 +149,7 @@ pub fn refusal(s: rules::Setting, seeds: &[u16], threshold: u64, history: u64) -
         return 3;
     }
     let length = history_length(s) as u64;
-    if history < length {
+    if m.history < length {
         return 4;
     }
     if above_limit(s) {

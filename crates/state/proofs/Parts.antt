@@ -18,7 +18,8 @@ use Rattle.rules.specs.History.{notAfter, neverRises, find}
 use Rattle.rules.specs.Quota.{quotaDown, indexCounter}
 use Rattle.rules.specs.Decision.{activeEstimate, activatedHead, activatedThreads, activated}
 use Rattle.rules.proofs.Tests.{is-true, every-all}
-use Rattle.rules.proofs.Memory.{Memory, after-not}
+use Rattle.rules.proofs.Memory.{after-not}
+use Rattle.rules.specs.Tested.{Memory}
 use Rattle.decision.specs.declared.View.{View}
 use Rattle.decision.specs.Numbers.{delayEnd, passiveFilter, viewOf}
 

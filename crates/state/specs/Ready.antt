@@ -3,9 +3,8 @@ use Prim.Native.Nat.{ℕ, _^_, _≤_, _<_}
 use Rattle.rules.specs.declared.Setting.{Setting}
 use Rattle.rules.specs.Setting.{epochLength, historyLength}
 use Rattle.rules.specs.State.{State}
-use Rattle.rules.specs.Quota.{limits01}
-use Rattle.rules.proofs.Accept.{Ranges, Long}
-use Rattle.rules.proofs.Memory.{Memory}
+use Rattle.rules.specs.Policy.{limits01}
+use Rattle.rules.specs.Tested.{Ranges, Long, Memory}
 
 -- what the arithmetic of the calls needs of an accepted setting
 pub record Bounds (s : Setting) : Type 0 where

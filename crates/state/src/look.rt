@@ -11,7 +11,7 @@ ghost use lib.ListN.{length};
 ghost use Rattle.rules.specs.Setting.{historyLength};
 ghost use Rattle.rules.specs.Clock.{epoch};
 ghost use Rattle.rules.specs.Filter.{Within};
-ghost use Rattle.rules.proofs.Memory.{Memory};
+ghost use Rattle.rules.specs.Tested.{Memory};
 ghost use Rattle.rules.specs.State.{state};
 ghost use Rattle.state.specs.Ready.{Bounds, Ready};
 ghost use Rattle.decision.specs.Numbers.{delayEnd, viewOf};

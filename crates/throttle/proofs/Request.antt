@@ -16,15 +16,16 @@ use Rattle.rules.specs.State.{State, countersUsed, threadsUsed, threadCell, sta
 use Rattle.rules.specs.Clock.{epoch, activeFilter, turnedCounters, turnedThreads, movedHead, turned}
 use Rattle.rules.specs.Hash.{places}
 use Rattle.rules.specs.Filter.{Within, blacklisted}
-use Rattle.rules.specs.Quota.{document01, limits01, quotaDown, inFlightHere, indexCounter}
+use Rattle.rules.specs.Quota.{quotaDown, inFlightHere, indexCounter}
+use Rattle.rules.specs.Policy.{document01, limits01}
 use Rattle.rules.specs.Decision.{activeEstimate, decide, activated}
 use Rattle.rules.specs.Calls.{answered, afterAnswer, requested}
-use Rattle.rules.proofs.Accept.{Accepted, Taken, epoch-long, scale-pos}
+use Rattle.rules.proofs.Accept.{epoch-long, scale-pos}
+use Rattle.rules.specs.Tested.{Accepted, Taken, Sound}
 use Rattle.rules.proofs.Places.{places-within}
 use Rattle.rules.proofs.Memory.{memory, taken-memory, turned-long, activated-long, activated-memory}
 use Rattle.rules.proofs.Step.{opened-rules}
 use Rattle.rules.proofs.Fits.{quota-most}
-use Rattle.rules.proofs.Sound.{Sound}
 use Rattle.decision.specs.declared.View.{View}
 use Rattle.throttle.specs.Left.{outcome}
 use Rattle.decision.specs.Numbers.{decideFrom, viewOf}

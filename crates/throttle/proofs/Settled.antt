@@ -17,7 +17,8 @@ use Rattle.rules.specs.Setting.{historyLength, indexScale}
 use Rattle.rules.specs.State.{State, countersUsed, threadsUsed, threadCell, headOf, headWords, freshHead, fresh}
 use Rattle.rules.specs.Clock.{epoch, activeFilter, clears, turnedCounters, turnedThreads, movedHead, turned}
 use Rattle.rules.specs.Hash.{places}
-use Rattle.rules.specs.Quota.{document01, quotaDown, indexCounter}
+use Rattle.rules.specs.Quota.{quotaDown, indexCounter}
+use Rattle.rules.specs.Policy.{document01}
 use Rattle.rules.specs.Calls.{request, done, index, refused, answered, finished, Outcome, setup, setupRefusal, callRefusal, doneRefusal, unlessRefused, requested, reported, indexShown, step}
 use Rattle.rules.proofs.Tests.{and-l, and-r}
 use Rattle.rules.proofs.Clearing.{clear-kept}

@@ -12,12 +12,12 @@ use Rattle.rules.specs.Setting.{settingRefusal}
 use Rattle.rules.specs.State.{State, countersUsed, threadsUsed, state}
 use Rattle.rules.specs.Clock.{epoch, turnedCounters, turnedThreads, movedHead, turned}
 use Rattle.rules.specs.History.{memoryOk}
-use Rattle.rules.specs.Quota.{limits01, document01}
+use Rattle.rules.specs.Policy.{limits01, document01}
 use Rattle.rules.specs.Calls.{answered, finished, Outcome, setupRefusal, callRefusal, unlessRefused, reported}
 use Rattle.rules.proofs.Tests.{is-true}
-use Rattle.rules.proofs.Accept.{Taken}
+use Rattle.rules.specs.Tested.{Taken, Sound}
 use Rattle.rules.proofs.Memory.{memory-ok, taken-memory, turned-long, reported-long}
-use Rattle.rules.proofs.Sound.{Sound, long-not-short}
+use Rattle.rules.proofs.Sound.{long-not-short}
 use Rattle.throttle.specs.Left.{outcome, oneLess}
 use Rattle.refusal.specs.Tests.{memoryTest, placeRefusal}
 use Rattle.throttle.specs.Told.{Told, Over}

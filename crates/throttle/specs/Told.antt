@@ -5,7 +5,7 @@ use Rattle.rules.specs.declared.Setting.{Setting}
 use Rattle.rules.specs.declared.Answer.{Answer}
 use Rattle.rules.specs.State.{State}
 use Rattle.rules.specs.Calls.{answered, finished, returnCode, Outcome}
-use Rattle.rules.proofs.Sound.{Sound}
+use Rattle.rules.specs.Tested.{Sound}
 
 -- a request: the code is the reply's, the answer is the reply's where the code is 0, the state is the outcome's and passes the tests again
 pub record Told (s : Setting) (code : ℕ) (answer : Answer) (st : State) (o : Outcome) : Type 0 where

@@ -16,9 +16,10 @@ ghost use Rattle.rules.specs.Setting.{indexScale};
 ghost use Rattle.rules.specs.State.{countersUsed, threadsUsed, threadCell, state};
 ghost use Rattle.rules.specs.Clock.{epoch, activeFilter, turnedCounters, turnedThreads, movedHead, turned};
 ghost use Rattle.rules.specs.Hash.{places};
-ghost use Rattle.rules.specs.Quota.{document01, quotaDown, indexCounter};
+ghost use Rattle.rules.specs.Quota.{quotaDown, indexCounter};
+ghost use Rattle.rules.specs.Policy.{document01};
 ghost use Rattle.rules.specs.Calls.{answered, callRefusal, requested};
-ghost use Rattle.rules.proofs.Sound.{Sound};
+ghost use Rattle.rules.specs.Tested.{Sound};
 ghost use Rattle.throttle.specs.Left.{outcome, oneLess};
 ghost use Rattle.state.specs.Ready.{Bounds};
 

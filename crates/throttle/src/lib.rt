@@ -10,7 +10,7 @@ use refusal::setup_refusal;
 ghost use mathlib.Core.Path.{_≡_};
 ghost use mathlib.Core.List.{[]};
 ghost use Rattle.rules.specs.Setting.{settingOf};
-ghost use Rattle.rules.specs.Quota.{document01};
+ghost use Rattle.rules.specs.Policy.{document01};
 ghost use Rattle.rules.specs.Calls.{request, done, index, setup, step};
 ghost use Rattle.throttle.specs.Left.{left, found, leaves};
 

@@ -9,9 +9,9 @@ use rules::Setting;
 ghost use mathlib.Core.Path.{_≡_};
 ghost use Rattle.rules.specs.Answers.{none};
 ghost use Rattle.rules.specs.Setting.{settingRefusal};
-ghost use Rattle.rules.specs.Quota.{limits01, document01};
+ghost use Rattle.rules.specs.Policy.{limits01, document01};
 ghost use Rattle.rules.specs.Calls.{request, done, step};
-ghost use Rattle.rules.proofs.Sound.{Sound};
+ghost use Rattle.rules.specs.Tested.{Sound};
 ghost use Rattle.rules.specs.State.{state};
 ghost use Rattle.throttle.specs.Told.{Told, Over};
 

@@ -2,8 +2,8 @@
 use native.Mathlib.Omega.{arith}
 use mathlib.Core.Path.{_≡_, ap, _∙_}
 use Rattle.rules.specs.Setting.{historyLength}
-use Rattle.rules.specs.Quota.{limits01}
-use Rattle.rules.proofs.Accept.{Accepted}
+use Rattle.rules.specs.Policy.{limits01}
+use Rattle.rules.specs.Tested.{Accepted}
 use Rattle.plan.specs.Delays.{withDelay, someSeeds}
 use Rattle.plan.specs.Plan.{costOf}
 use Rattle.plan.proofs.Interval.{accepted-delay}

@@ -4,8 +4,9 @@ use mathlib.Core.Bool.{true, false}
 use borrow.Author.Tests.{not-true, not-false}
 use Rattle.rules.specs.Answers.{refusalNumber}
 use Rattle.rules.specs.State.{State, state}
-use Rattle.rules.specs.Quota.{document01}
-use Rattle.rules.proofs.Accept.{SetUp, set-up, number-none}
+use Rattle.rules.specs.Policy.{document01}
+use Rattle.rules.proofs.Accept.{set-up, number-none}
+use Rattle.rules.specs.Tested.{SetUp}
 use Rattle.refusal.specs.Tests.{memoryTest}
 use Rattle.refusal.proofs.Refusals.{orElse-first, setupTest, setup-test, call-test, call-memory, call-place}
 use borrow.Author.Needs.{needs}

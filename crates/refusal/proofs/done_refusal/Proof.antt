@@ -2,8 +2,9 @@
 use mathlib.Core.Path.{refl, sym, ap, _∙_}
 use Rattle.rules.specs.Answers.{refusalNumber}
 use Rattle.rules.specs.State.{State, state}
-use Rattle.rules.specs.Quota.{document01}
-use Rattle.rules.proofs.Accept.{Taken, taken, number-none}
+use Rattle.rules.specs.Policy.{document01}
+use Rattle.rules.proofs.Accept.{taken, number-none}
+use Rattle.rules.specs.Tested.{Taken}
 use Rattle.refusal.proofs.Refusals.{done-first, done-last}
 use borrow.Author.Needs.{needs}
 use Rattle.refusal.proofs.done_refusal.Statement.{statement}

@@ -2,8 +2,9 @@
 use mathlib.Core.Path.{sym, ap, _∙_}
 use Rattle.rules.specs.Answers.{none, shortBuffer, refusalNumber, refuse}
 use Rattle.rules.specs.Setting.{settingRefusal}
-use Rattle.rules.specs.Quota.{limits01}
-use Rattle.rules.proofs.Accept.{Accepted, accepted, number-none}
+use Rattle.rules.specs.Policy.{limits01}
+use Rattle.rules.proofs.Accept.{accepted, number-none}
+use Rattle.rules.specs.Tested.{Accepted}
 use Rattle.refusal.specs.Tests.{shortTest}
 use Rattle.refusal.proofs.Refusals.{orElse-first, orElse-second}
 use borrow.Author.Needs.{needs}

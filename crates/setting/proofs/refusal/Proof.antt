@@ -1,29 +1,57 @@
 -- `setting::refusal`: each way out gives the number of the first test that holds, in the definition's order.
 use mathlib.Core.Path.{_≡_, sym, _∙_}
+use mathlib.Core.List.{List}
 use mathlib.Core.Bool.{true, false}
+use Prim.Native.Nat.{ℕ, _≤_, _*_, _-_}
 use native.Mathlib.Omega.{arith}
+use lib.Dec.{ltb}
 use borrow.Author.Tests.{lt-ltb, le-ltb, ltb-false, not-true, not-false}
-use Rattle.rules.specs.Setting.{settingRefusal}
-use Rattle.rules.proofs.Accept.{Ranges}
-use Rattle.setting.proofs.Laws.{inRange, in-ranges, fields-any}
+use Rattle.rules.specs.declared.Setting.{Setting}
+use Rattle.rules.specs.declared.Limits.{Limits}
+use Rattle.rules.specs.Answers.{none, longHistory, aboveLimit, refuse}
+use Rattle.rules.specs.Setting.{historyLength, rowBound, settingRefusal}
+use Rattle.rules.specs.Tested.{Ranges}
+use Rattle.setting.proofs.Laws.{inRange, in-ranges}
 use borrow.Author.Needs.{needs}
 use Rattle.setting.proofs.refusal.Statement.{statement}
 use Rattle.setting.proofs.refusal.Tie as tie
 
--- the test of refusal 1, as the code has computed it
-tested : (c : tie.After-and) → c .and .result ≡ inRange (c .before .before .before .before .args .threshold) (c .before .before .before .before .args .history) (c .before .before .before .before .args .s) (c .before .before .before .before .args .seeds .now)
-tested c =
-    let f = c .before .before .fields-in-range .ensures ∙ fields-any (c .before .before .before .before .args .threshold) (c .before .before .before .before .args .history) (c .before .before .before .before .args .s) in
-    rw (← f, ← c .before .seeds-in-range .ensures) (c .and .ensures)
 
-out : (c : tie.Then1) → inRange (c .before .before .before .before .before .args .threshold) (c .before .before .before .before .before .args .history) (c .before .before .before .before .before .args .s) (c .before .before .before .before .before .args .seeds .now) ≡ false
+-- the arguments, after the test of refusal 1 and where H is known
+abbrev m : tie.Else1 → Limits
+m c = c .before .before .before .before .before .args .m
+
+abbrev s : tie.Else1 → Setting
+s c = c .before .before .before .before .before .args .s
+
+abbrev seeds : tie.Else1 → List ℕ
+seeds c = c .before .before .before .before .before .args .seeds .now
+
+abbrev first : tie.After-history-length → tie.Else1
+first c = (c .before .before .before .before .before)
+
+-- the test of refusal 1, as the code has computed it
+tested : (c : tie.After-and) → let a = c .before .before .before .before .args in c .and .result ≡ inRange (a .m) (a .s) (a .seeds .now)
+tested c = rw (← c .before .before .fields-in-range .ensures, ← c .before .seeds-in-range .ensures) (c .and .ensures)
+
+out : (c : tie.Then1) → let a = c .before .before .before .before .before .args in inRange (a .m) (a .s) (a .seeds .now) ≡ false
 out c = sym (tested (c .before)) ∙ not-true _ (c .if1 .taken)
 
-inside : (c : tie.Else1) → inRange (c .before .before .before .before .before .args .threshold) (c .before .before .before .before .before .args .history) (c .before .before .before .before .before .args .s) (c .before .before .before .before .before .args .seeds .now) ≡ true
+inside : (c : tie.Else1) → inRange (m c) (s c) (seeds c) ≡ true
 inside c = sym (tested (c .before)) ∙ not-false _ (c .if1 .left)
 
-ok : (c : tie.Else1) → Ranges (record { threshold = c .before .before .before .before .before .args .threshold; history = c .before .before .before .before .before .args .history }) (c .before .before .before .before .before .args .s)
-ok c = in-ranges (c .before .before .before .before .before .args .threshold) (c .before .before .before .before .before .args .history) (c .before .before .before .before .before .args .s) (c .before .before .before .before .before .args .seeds .now) (inside c)
+ok : (c : tie.Else1) → Ranges (m c) (s c)
+ok c = in-ranges (m c) (s c) (seeds c) (inside c)
+
+-- refusals 1, 2 and 3 do not apply
+window : (c : tie.After-history-length) → let x = s (first c) in 2 * x .n * x .trc ≤ x .w - 1
+window c = ltb-false _ _ (sym (c .before .before .before .before .short-window .ensures) ∙ c .before .before .if2 .left)
+
+left : (c : tie.After-history-length) → let x = s (first c) in
+    settingRefusal (m (first c)) x (seeds (first c))
+    ≡ refuse (ltb (m (first c) .history) (historyLength x)) longHistory (refuse (ltb (x .l) (rowBound x)) aboveLimit none)
+unfolding settingRefusal
+left c = simp (inside (first c), ← c .before .before .before .before .short-window .ensures, c .before .before .if2 .left, ← c .before .before .before .bad-delay .ensures, c .before .if3 .left)
 
 fields-in-range-requires : tie.Need-fields-in-range-requires
 fields-in-range-requires c κs = search needs
@@ -39,7 +67,7 @@ unfolding settingRefusal
 returns c = simp (out c)
 
 short-window-requires : tie.Need-short-window-requires
-short-window-requires c κs = let k = ok (c) in (k .w-low, omega arith, k .trc-high)
+short-window-requires c κs = let k = ok c in (k .w-low, omega arith, k .trc-high)
 
 bad-delay-requires : tie.Need-bad-delay-requires
 bad-delay-requires c κs = search needs
@@ -56,21 +84,18 @@ history-length-requires : tie.Need-history-length-requires
 history-length-requires c κs = let k = ok (c .before .before .before .before) in (k .tfaw-low, k .tfaw-high, k .td-high)
 
 returns-4 : tie.Need-returns-4
-unfolding settingRefusal
-returns-4 c = simp (inside (c .before .before .before .before .before .before), ← c .before .before .before .before .before .short-window .ensures, c .before .before .before .if2 .left, ← c .before .before .before .before .bad-delay .ensures, c .before .before .if3 .left, ← c .before .history-length .ensures, lt-ltb _ _ (c .if4 .taken))
+returns-4 c = simp (left (c .before .before), ← c .before .before .history-length .ensures, lt-ltb _ _ (c .if4 .taken))
 
 above-limit-requires : tie.Need-above-limit-requires
 above-limit-requires c κs =
-    let k = ok (c .before .before .before .before .before .before) in
-    (k .td-low, k .td-high, omega arith, omega arith, k .l-high, ltb-false _ _ (sym (c .before .before .before .before .before .short-window .ensures) ∙ c .before .before .before .if2 .left), k .w-high)
+    let k = ok (c .before .before .before .before .before .before .before) in
+    (k .td-low, k .td-high, omega arith, omega arith, k .l-high, window (c .before .before), k .w-high)
 
 returns-5 : tie.Need-returns-5
-unfolding settingRefusal
-returns-5 c = simp (inside (c .before .before .before .before .before .before .before .before), ← c .before .before .before .before .before .before .before .short-window .ensures, c .before .before .before .before .before .if2 .left, ← c .before .before .before .before .before .before .bad-delay .ensures, c .before .before .before .before .if3 .left, ← c .before .before .before .history-length .ensures, le-ltb _ _ (c .before .before .if4 .left), ← c .before .above-limit .ensures, c .if5 .taken)
+returns-5 c = simp (left (c .before .before .before .before), ← c .before .before .before .before .history-length .ensures, le-ltb _ _ (c .before .before .if4 .left), ← c .before .above-limit .ensures, c .if5 .taken)
 
 returns-6 : tie.Need-returns-6
-unfolding settingRefusal
-returns-6 c = simp (inside (c .before .before .before .before .before .before .before .before), ← c .before .before .before .before .before .before .before .short-window .ensures, c .before .before .before .before .before .if2 .left, ← c .before .before .before .before .before .before .bad-delay .ensures, c .before .before .before .before .if3 .left, ← c .before .before .before .history-length .ensures, le-ltb _ _ (c .before .before .if4 .left), ← c .before .above-limit .ensures, c .if5 .left)
+returns-6 c = simp (left (c .before .before .before .before), ← c .before .before .before .before .history-length .ensures, le-ltb _ _ (c .before .before .if4 .left), ← c .before .above-limit .ensures, c .if5 .left)
 
 pub refusal-spec : {M : Type 1} → statement M
 refusal-spec =

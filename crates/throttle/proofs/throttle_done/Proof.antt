@@ -7,9 +7,10 @@ use Rattle.rules.specs.Answers.{refusalNumber}
 use Rattle.rules.specs.Setting.{settingOf}
 use Rattle.rules.specs.State.{State, threadCell, state}
 use Rattle.rules.specs.Clock.{turned}
-use Rattle.rules.specs.Quota.{document01}
+use Rattle.rules.specs.Policy.{document01}
 use Rattle.rules.specs.Calls.{doneRefusal, reported, step}
-use Rattle.rules.proofs.Accept.{Taken, taken, done-taken, number-none}
+use Rattle.rules.proofs.Accept.{taken, done-taken, number-none}
+use Rattle.rules.specs.Tested.{Taken}
 use Rattle.throttle.specs.Left.{found}
 use Rattle.throttle.proofs.Request.{bounds}
 use Rattle.throttle.proofs.Settled.{left-refused, left-done, some-flying}

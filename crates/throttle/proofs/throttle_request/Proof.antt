@@ -5,7 +5,7 @@ use Rattle.rules.specs.Setting.{settingOf}
 use Rattle.rules.specs.State.{State, state}
 use Rattle.rules.specs.Clock.{turned}
 use Rattle.rules.specs.Hash.{places}
-use Rattle.rules.specs.Quota.{document01}
+use Rattle.rules.specs.Policy.{document01}
 use Rattle.rules.specs.Calls.{callRefusal, requested, step}
 use Rattle.rules.proofs.Accept.{number-none}
 use Rattle.throttle.specs.Left.{found}

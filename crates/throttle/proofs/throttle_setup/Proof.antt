@@ -5,9 +5,10 @@ use native.Mathlib.Omega.{arith}
 use Rattle.rules.specs.Answers.{refusalNumber}
 use Rattle.rules.specs.Setting.{settingOf}
 use Rattle.rules.specs.State.{State, fresh}
-use Rattle.rules.specs.Quota.{document01}
+use Rattle.rules.specs.Policy.{document01}
 use Rattle.rules.specs.Calls.{finished, setup, setupRefusal}
-use Rattle.rules.proofs.Accept.{SetUp, set-up, number-none, cells-small}
+use Rattle.rules.proofs.Accept.{set-up, number-none, cells-small}
+use Rattle.rules.specs.Tested.{SetUp}
 use Rattle.throttle.specs.Left.{found, outcome}
 use Rattle.refusal.proofs.Refusals.{setup-test}
 use Rattle.throttle.proofs.Settled.{left-refused, left-setup}

@@ -6,12 +6,12 @@ use Rattle.rules.specs.State.{State, threadCell, state}
 use Rattle.rules.specs.Clock.{epoch, movedHead, turned}
 use Rattle.rules.specs.Hash.{places}
 use Rattle.rules.specs.Filter.{blacklisted}
-use Rattle.rules.specs.Quota.{document01}
+use Rattle.rules.specs.Policy.{document01}
 use Rattle.rules.specs.Decision.{activeEstimate, decide, activated}
-use Rattle.rules.proofs.Accept.{Taken, taken}
+use Rattle.rules.proofs.Accept.{taken}
+use Rattle.rules.specs.Tested.{Taken, Sound}
 use Rattle.rules.proofs.Tests.{is-true}
 use Rattle.rules.specs.Setting.{seedsInRange}
-use Rattle.rules.proofs.Sound.{Sound}
 use Rattle.decision.specs.Numbers.{viewOf}
 use Rattle.state.specs.Ready.{Ready}
 use Rattle.throttle.proofs.Request.{bounds, turned-parts, ready, view-small, decision, black-by-view, few-flying, request-waits, request-opens, moved-sound, activated-sound}

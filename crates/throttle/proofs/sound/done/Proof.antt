@@ -6,10 +6,10 @@ use lib.ListN.{getD}
 use Rattle.rules.specs.Answers.{refusalNumber}
 use Rattle.rules.specs.State.{State, threadCell, state}
 use Rattle.rules.specs.Clock.{turned}
-use Rattle.rules.specs.Quota.{document01}
+use Rattle.rules.specs.Policy.{document01}
 use Rattle.rules.specs.Calls.{finished, callRefusal, doneRefusal, reported, step}
-use Rattle.rules.proofs.Accept.{Taken, taken, done-taken, number-none}
-use Rattle.rules.proofs.Sound.{Sound}
+use Rattle.rules.proofs.Accept.{taken, done-taken, number-none}
+use Rattle.rules.specs.Tested.{Taken, Sound}
 use Rattle.throttle.specs.Left.{outcome}
 use Rattle.refusal.proofs.Refusals.{done-first, done-last}
 use Rattle.throttle.proofs.Request.{bounds}

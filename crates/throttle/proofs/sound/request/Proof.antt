@@ -4,7 +4,7 @@ use Rattle.rules.specs.Answers.{refusalNumber}
 use Rattle.rules.specs.State.{State, state}
 use Rattle.rules.specs.Clock.{turned}
 use Rattle.rules.specs.Hash.{places}
-use Rattle.rules.specs.Quota.{document01}
+use Rattle.rules.specs.Policy.{document01}
 use Rattle.rules.specs.Calls.{callRefusal, requested, step}
 use Rattle.rules.proofs.Accept.{number-none}
 use Rattle.throttle.proofs.Tells.{place-only, told-refused, told-taken}
