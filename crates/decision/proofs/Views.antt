@@ -10,18 +10,18 @@ use borrow.Author.Tests.{lt-ltb, le-ltb, le-leb, lt-leb}
 use Rattle.rules.specs.declared.Setting.{Setting}
 use Rattle.rules.specs.Setting.{epochLength, historyLength}
 use Rattle.rules.specs.State.{State, rowWord}
-use Rattle.rules.specs.Clock.{epoch, activeFilter}
-use Rattle.rules.specs.Filter.{Within, estimate}
+use Rattle.rules.specs.Clock.{epoch}
+use Rattle.rules.specs.Filter.{Within}
 use Rattle.rules.specs.History.{rowFree}
-use Rattle.rules.specs.Policy.{document01}
-use Rattle.rules.specs.Decision.{quotaRule, bankRule, rankRule, rowRule, waitTick, firstFailing, decide}
+use Rattle.rules.specs.Policy.{Policy}
+use Rattle.rules.specs.Decision.{quotaRule, bankRule, rankRule, activeEstimate, rowRule, waitTick, firstFailing, decide}
 use Rattle.rules.specs.Claims.{closedTick, closedWait}
 use Rattle.rules.proofs.Tests.{is-true, is-false}
 use Rattle.rules.specs.Tested.{Memory}
 use Rattle.rules.proofs.Wait.{wait-closed}
 use Rattle.rules.proofs.WaitRow.{Delayed, delayed}
 use Rattle.decision.specs.declared.View.{View}
-use Rattle.decision.specs.Numbers.{gapsEnd, waitFrom, decideFrom, delayEnd, passiveFilter, viewOf}
+use Rattle.decision.specs.Numbers.{gapsEnd, waitFrom, decideFrom, delayEnd, passiveFilter, passiveEstimate, viewOf}
 
 -- a row that neither filter blacklists waits for the gaps only, whatever the history holds
 no-delay : (n end m d active other : ℕ) → active < n → other < n → closedTick n end m d active other ≡ m
@@ -68,39 +68,41 @@ free-by-delay h td p ticks rows word t d delay = go (decLe d t)
         let l : t < d = omega arith in
         is-false (rowFree h td ticks rows word t) (delay .held t (omega arith) l) ∙ sym (lt-leb d t l)
 
-module _ (s : Setting) (at : List ℕ) (st : State) (bank thread row : ℕ) (kept : Memory s (st .head) (st .ticks)) where
+module _ (p : Policy) (s : Setting) (at : ℕ → List ℕ) (st : State) (bank thread row : ℕ) (kept : Memory s (st .head) (st .ticks)) where
   abbrev t : ℕ
   t = st .head .last
 
   abbrev active : ℕ
-  active = estimate (st .counters) bank (activeFilter s t) at
+  active = activeEstimate s at st bank
 
   abbrev other : ℕ
-  other = estimate (st .counters) bank (passiveFilter s t) at
+  other = passiveEstimate s at st bank
 
   abbrev d : ℕ
   d = delayEnd s (st .head) (st .ticks) (st .rows) bank row
 
-  abbrev v : View
-  v = viewOf s at st bank thread row
+  -- what the code reads of the state
+  abbrev pub view : View
+  view = viewOf p s active other (st .head) (st .ticks) (st .rows) (st .threads) bank thread row
 
-  row-equal : rowRule s (λ f. at) st bank row ≡ (ltb active (s .n) || leb (cond (ltb active (s .n) && ltb other (s .n)) 0 d) t)
+  row-equal : rowRule s at st bank row ≡ (ltb active (s .n) || leb (cond (ltb active (s .n) && ltb other (s .n)) 0 d) t)
   unfolding delayEnd
   row-equal =
       row-by-delay (s .n) t d active other (rowFree (historyLength s) (s .td) (st .ticks) (st .rows) (rowWord bank row) t)
       (free-by-delay (historyLength s) (s .td) (st .head .next) (st .ticks) (st .rows) (rowWord bank row) t d
       (delayed (historyLength s) (s .td) (st .head .next) (st .ticks) (st .rows) (rowWord bank row) t (kept .inRing) (kept .steady) (λ q k. omega (arith, kept .history q k))))
 
-  wait-equal : bank < s .banks → 1 ≤ epochLength s → s .td ≤ epochLength s → Within at → waitTick s (λ f. at) st bank row ≡ waitFrom s t v
+  wait-equal : bank < s .banks → 1 ≤ epochLength s → s .td ≤ epochLength s → Within (at (passiveFilter s t)) → waitTick s at st bank row ≡ waitFrom s t view
   unfolding closedWait waitFrom gapsEnd viewOf delayEnd
   wait-equal bank-in long short w =
-      wait-closed s (λ f. at) st bank row kept bank-in long short w
-      ∙ sym (skipped-delay (s .n) ((epoch s t + 1) * epochLength s) (gapsEnd s t v) d active other)
+      wait-closed s at st bank row kept bank-in long short w
+      ∙ sym (skipped-delay (s .n) ((epoch s t + 1) * epochLength s) (gapsEnd s t view) d active other)
 
-  pub decide-view : bank < s .banks → 1 ≤ epochLength s → s .td ≤ epochLength s → Within at
-      → decide document01 s (λ f. at) st bank thread row ≡ decideFrom s t v
+  -- the rules' decision is the one from the view
+  pub decide-view : bank < s .banks → 1 ≤ epochLength s → s .td ≤ epochLength s → Within (at (passiveFilter s t))
+      → decide p s at st bank thread row ≡ decideFrom s t view
   unfolding decide decideFrom viewOf
   decide-view bank-in long short w =
-      ap (λ x. firstFailing (quotaRule document01 s st bank thread) (bankRule s st bank) (rankRule s st) x (waitTick s (λ f. at) st bank row)) row-equal
-      ∙ ap (λ x. firstFailing (quotaRule document01 s st bank thread) (bankRule s st bank) (rankRule s st) (ltb active (s .n) || leb (cond (ltb active (s .n) && ltb other (s .n)) 0 d) t) x)
+      ap (λ x. firstFailing (quotaRule p s st bank thread) (bankRule s st bank) (rankRule s st) x (waitTick s at st bank row)) row-equal
+      ∙ ap (λ x. firstFailing (quotaRule p s st bank thread) (bankRule s st bank) (rankRule s st) (ltb active (s .n) || leb (cond (ltb active (s .n) && ltb other (s .n)) 0 d) t) x)
       (wait-equal bank-in long short w)

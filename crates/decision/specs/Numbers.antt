@@ -12,7 +12,8 @@ use Rattle.rules.specs.State.{State, rowWord}
 use Rattle.rules.specs.Clock.{epoch, activeFilter}
 use Rattle.rules.specs.Filter.{estimate}
 use Rattle.rules.specs.History.{find}
-use Rattle.rules.specs.Quota.{quotaDown, inFlightHere, indexCounter}
+use Rattle.rules.specs.Quota.{indexCounter}
+use Rattle.rules.specs.Policy.{Policy}
 use Rattle.rules.specs.Decision.{passed, firstFailing}
 use Rattle.rules.specs.Claims.{gapEnd, closedTick}
 use Rattle.decision.specs.declared.View.{View}
@@ -41,19 +42,22 @@ delayEnd s h ticks rows bank row =
 abbrev pub passiveFilter : Setting → ℕ → ℕ
 passiveFilter s t = (epoch s t + 1) % 2
 
--- What the decision looks at. The history is searched only for a row that one of the filters blacklists.
-unfoldable pub viewOf : Setting → List ℕ → State → ℕ → ℕ → ℕ → View
-viewOf s at st bank thread row =
-    let t = st .head .last in
-    let active = estimate (st .counters) bank (activeFilter s t) at in
-    let other = estimate (st .counters) bank (passiveFilter s t) at in
+-- the row's estimate in that filter; at f gives the row's places in filter f
+abbrev pub passiveEstimate : Setting → (ℕ → List ℕ) → State → ℕ → ℕ
+passiveEstimate s at st bank =
+    estimate (st .counters) bank (passiveFilter s (st .head .last)) (at (passiveFilter s (st .head .last)))
+
+-- What the decision looks at, with the row's estimates in the active and in the other filter. The history is searched only for a row that
+-- one of them blacklists.
+unfoldable pub viewOf : Policy → Setting → ℕ → ℕ → Head → List ℕ → List ℕ → List ℕ → ℕ → ℕ → ℕ → View
+viewOf p s active other h ticks rows threads bank thread row =
     record {
-      flying = inFlightHere s (st .threads) bank thread;
-      quota = quotaDown s (indexCounter s (st .threads) bank thread (activeFilter s t));
-      bank = getD (st .head .bank) bank 0;
-      rank = getD (st .head .rank) 3 0;
+      flying = p .inFlight s threads bank thread;
+      quota = p .quota s (indexCounter s threads bank thread (activeFilter s (h .last)));
+      bank = getD (h .bank) bank 0;
+      rank = getD (h .rank) 3 0;
       active = active;
       other = other;
-      delay = cond (ltb active (s .n) && ltb other (s .n)) 0 (delayEnd s (st .head) (st .ticks) (st .rows) bank row);
-      end = (epoch s t + 1) * epochLength s;
+      delay = cond (ltb active (s .n) && ltb other (s .n)) 0 (delayEnd s h ticks rows bank row);
+      end = (epoch s (h .last) + 1) * epochLength s;
     }

@@ -11,7 +11,7 @@ use lib.ListN.{length, getD, set}
 use borrow.Author.Tests.{eq-eqb, ne-eqb}
 use Rattle.rules.specs.Cells.{member, All}
 use Rattle.rules.specs.State.{counterCell}
-use Rattle.rules.specs.Filter.{Within, counterAt, raised, named, counted}
+use Rattle.rules.specs.Filter.{Within, two, counterAt, estimate, raised, named, counted}
 use Rattle.rules.proofs.Tests.{or-e}
 use Rattle.rules.proofs.Cells.{map-same, map-map, store-map}
 use Rattle.filter.specs.Changes.{raisedAt}
@@ -97,9 +97,16 @@ counted-both n bank at cs h0 h1 =
     map-map (λ i c. cond (q i) (raised n c) c) (λ i c. cond (p i) (raised n c) c) (λ i c. cond (p i || q i) (raised n c) c) cs
     (λ i c. raise-once (p i) (q i) n c (λ x y. let a = cell-in bank 0 i (at 0) h0 x in let b = cell-in bank 1 i (at 1) h1 y in omega arith))
 
--- the two calls of the code, for a row whose places are the same in both filters
-pub counted-row : (n bank : ℕ) (at cs m z : List ℕ) → length at ≡ 4 → Within at → m ≡ raisedAt n (map (counterCell bank 0) at) cs
-    → z ≡ raisedAt n (map (counterCell bank 1) at) m → z ≡ counted n bank (λ f. at) cs
-counted-row n bank at cs m z four w em ez =
-    let all = within-all at four w in
-    ez ∙ ap (λ l. raisedAt n (map (counterCell bank 1) at) l) em ∙ counted-both n bank (λ f. at) cs all all
+-- the two calls of the code, for a row with these places in filter 0 and filter 1
+pub counted-row : (n bank : ℕ) (at other cs m z : List ℕ) → length at ≡ 4 → Within at → length other ≡ 4 → Within other
+    → m ≡ raisedAt n (map (counterCell bank 0) at) cs → z ≡ raisedAt n (map (counterCell bank 1) other) m → z ≡ counted n bank (two at other) cs
+counted-row n bank at other cs m z four w four′ w′ em ez =
+    ez ∙ ap (λ l. raisedAt n (map (counterCell bank 1) other) l) em ∙ counted-both n bank (two at other) cs (within-all at four w) (within-all other four′ w′)
+
+-- ---- the places of the filter that is asked for
+
+pub pick-first : (cs : List ℕ) (bank f : ℕ) (at other : List ℕ) (r : ℕ) → f ≡ 0 → r ≡ estimate cs bank f at → r ≡ estimate cs bank f (two at other f)
+pick-first cs bank f at other r h e = rw (eq-eqb f 0 h) e
+
+pub pick-second : (cs : List ℕ) (bank f : ℕ) (at other : List ℕ) (r : ℕ) → (f ≡ 0 → ⊥) → r ≡ estimate cs bank f other → r ≡ estimate cs bank f (two at other f)
+pick-second cs bank f at other r h e = rw (ne-eqb f 0 h) e

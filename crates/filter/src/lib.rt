@@ -7,7 +7,7 @@ ghost use lib.ListN.{length};
 ghost use Rattle.rules.specs.Cells.{clearCells};
 ghost use Rattle.rules.specs.State.{counterCell};
 ghost use Rattle.rules.specs.Clock.{turnedCounters};
-ghost use Rattle.rules.specs.Filter.{Within, estimate, raised, counted};
+ghost use Rattle.rules.specs.Filter.{Within, two, estimate, raised, counted};
 ghost use Rattle.filter.specs.Changes.{raisedAt, inRun, inFilter};
 
 fn least(a: u16, b: u16) -> u16
@@ -33,12 +33,29 @@ pub fn estimate(part: &[u16], at: [usize; 4], f: usize) -> u16
 }
 
 // The estimate of a row of a bank, whose part of the counters starts at bank * 2048.
-pub fn bank_estimate(counters: &[u16], bank: usize, at: [usize; 4], f: usize) -> u16
+fn one_estimate(counters: &[u16], bank: usize, at: [usize; 4], f: usize) -> u16
     requires { ⌜ (bank < 16) × (bank * 2048 + 2048 ≤ length (now counters)) × (f < 2) × Within at ⌝ }
     ensures { λ r. ⌜ r ≡ estimate (now (counters .entry)) bank f at ⌝ }
 {
     let start = bank * 2048;
     estimate(&counters[start..start + 2048], at, f)
+}
+
+// The same for a row with these places in filter 0 and filter 1.
+pub fn bank_estimate(
+    counters: &[u16],
+    bank: usize,
+    at: [usize; 4],
+    other: [usize; 4],
+    f: usize,
+) -> u16
+    requires { ⌜ (bank < 16) × (bank * 2048 + 2048 ≤ length (now counters)) × (f < 2) × Within at × Within other ⌝ }
+    ensures { λ r. ⌜ r ≡ estimate (now (counters .entry)) bank f (two at other f) ⌝ }
+{
+    if f == 0 {
+        return one_estimate(counters, bank, at, f);
+    }
+    one_estimate(counters, bank, other, f)
 }
 
 // A counter with 1 more, if it is below n.
@@ -69,13 +86,13 @@ fn count_in(counters: &mut [u16], bank: usize, f: usize, at: [usize; 4], n: u16)
     counters[a0] = v0;
 }
 
-// Counts an activation of the row with these places, in both filters of its bank.
-pub fn count(counters: &mut [u16], bank: usize, at: [usize; 4], n: u16)
-    requires { ⌜ (bank < 16) × (bank * 2048 + 2048 ≤ length (now counters)) × Within at ⌝ }
-    ensures { λ _. ⌜ now (counters .exit) ≡ counted n bank (λ f. at) (now (counters .entry)) ⌝ }
+// Counts an activation of the row with these places in filter 0 and filter 1 of its bank.
+pub fn count(counters: &mut [u16], bank: usize, at: [usize; 4], other: [usize; 4], n: u16)
+    requires { ⌜ (bank < 16) × (bank * 2048 + 2048 ≤ length (now counters)) × Within at × Within other ⌝ }
+    ensures { λ _. ⌜ now (counters .exit) ≡ counted n bank (two at other) (now (counters .entry)) ⌝ }
 {
     count_in(counters, bank, 0, at, n);
-    count_in(counters, bank, 1, at, n);
+    count_in(counters, bank, 1, other, n);
 }
 
 // Clears the n counters from start on.

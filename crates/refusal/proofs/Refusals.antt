@@ -3,23 +3,24 @@ use Prim.Native.Nat.{ℕ, suc, _+_, _≤_, _<_}
 use mathlib.Core.Path.{_≡_, refl, sym, ap, _∙_, subst}
 use mathlib.Core.Logic.{_≢_}
 use mathlib.Core.List.{List}
-use mathlib.Core.Bool.{Bool, true, false, not, _&&_}
+use mathlib.Core.Bool.{Bool, true, false, not, _&&_, _||_}
 use native.Mathlib.Omega.{arith}
-use lib.Dec.{T, ltb, eqb}
-use borrow.Author.Tests.{le-ltb}
+use lib.Dec.{T, leb, ltb, eqb, nltb→le, nleb→lt}
+use borrow.Author.Tests.{le-ltb, eq-eqb, ne-eqb}
 use lib.ListN.{length, getD}
 use Rattle.rules.specs.declared.Setting.{Setting}
+use Rattle.rules.specs.declared.Limits.{Limits}
 use Rattle.rules.specs.declared.Head.{Head}
 use Rattle.rules.specs.Cells.{every}
-use Rattle.rules.specs.Answers.{Refusal, none, outOfRange, shortWindow, badDelay, longHistory, aboveLimit, shortBuffer, badMemory, outsideSetting, badTick, noneInFlight, refusalNumber, refuse, orElse}
+use Rattle.rules.specs.Answers.{Refusal, none, shortBuffer, badMemory, outsideSetting, refusalNumber, refuse, orElse}
 use Rattle.rules.specs.Setting.{historyLength, settingRefusal}
 use Rattle.rules.specs.State.{State, countersUsed, threadsUsed, tooShort, threadCell}
 use Rattle.rules.specs.History.{notAfter, neverRises, memoryOk}
-use Rattle.rules.specs.Policy.{limits01, document01}
+use Rattle.rules.specs.Tested.{Accepted}
 use Rattle.rules.specs.Calls.{setupRefusal, callRefusal, doneRefusal}
-use Rattle.rules.proofs.Tests.{every-at, every-all, is-false, is-true}
-use Rattle.rules.proofs.Accept.{number-none}
-use Rattle.refusal.specs.Tests.{shortTest, memoryTest, placeRefusal}
+use Rattle.rules.proofs.Tests.{every-at, every-all, is-false, is-true, not-or}
+use Rattle.rules.proofs.Accept.{number-none, first-refusal, orElse-none, refuse-none, accepted}
+use Rattle.refusal.specs.Tests.{shortTest, memoryTest, placeRefusal, setupTest, callTest, doneTest}
 
 -- ---- a test of every number below n, one by one
 
@@ -79,79 +80,92 @@ module _ (s : Setting) (h : Head) (ticks : List ℕ) where
 
 -- the first refusal is given where there is one
 pub orElse-first : (a b : Refusal) → refusalNumber a ≢ 0 → orElse a b ≡ a
-orElse-first none b h = absurd (h refl)
-orElse-first outOfRange b h = refl
-orElse-first shortWindow b h = refl
-orElse-first badDelay b h = refl
-orElse-first longHistory b h = refl
-orElse-first aboveLimit b h = refl
-orElse-first shortBuffer b h = refl
-orElse-first badMemory b h = refl
-orElse-first outsideSetting b h = refl
-orElse-first badTick b h = refl
-orElse-first noneInFlight b h = refl
+orElse-first a b h = rw (ne-eqb (refusalNumber a) 0 h)
 
 -- and else the second
 pub orElse-second : (a b : Refusal) → refusalNumber a ≡ 0 → orElse a b ≡ b
-orElse-second a b h = ap (λ x. orElse x b) (number-none a h)
+orElse-second a b h = rw (eq-eqb (refusalNumber a) 0 h)
 
-module _ (s : Setting) (seeds : List ℕ) (st : State) where
-  -- refusals 1 to 6, from the lengths
-  abbrev pub setupTest : Refusal
-  setupTest =
-      orElse (settingRefusal limits01 s seeds)
-      (refuse (shortTest s (length (st .counters)) (length (st .ticks)) (length (st .rows)) (length (st .threads))) shortBuffer none)
+-- a test and what comes after it, in two parts
+refuse-parts : (a : Refusal) (q : Bool) (b : Refusal) → orElse a (refuse q shortBuffer b) ≡ orElse (orElse a (refuse q shortBuffer none)) b
+refuse-parts a q b = first-refusal (λ x. x ≡ orElse (orElse a (refuse q shortBuffer none)) b) a (refuse q shortBuffer b) (λ e. rw e (later q)) some
+  where
+    later : (q : Bool) → refuse q shortBuffer b ≡ orElse (refuse q shortBuffer none) b
+    later true = refl
+    later false = refl
 
-  pub setup-test : setupTest ≡ setupRefusal document01 s seeds st
-  unfolding setupRefusal tooShort shortTest
+    some : 0 < refusalNumber a → a ≡ orElse (orElse a (refuse q shortBuffer none)) b
+    some h =
+        let number : refusalNumber a ≢ 0 = λ z. omega arith in
+        rw (orElse-first a (refuse q shortBuffer none) number, orElse-first a b number)
+
+-- ---- the rules' refusals of a state are these tests of its parts
+
+module _ (m : Limits) (s : Setting) (seeds : List ℕ) (st : State) where
+  pub setup-test : setupRefusal m s seeds st ≡ setupTest m s seeds (length (st .counters)) (length (st .ticks)) (length (st .rows)) (length (st .threads))
+  unfolding setupRefusal tooShort setupTest shortTest
   setup-test = refl
 
-  rest : (a b : Refusal) (q : Bool) → orElse a (refuse q shortBuffer b) ≡ orElse (orElse a (refuse q shortBuffer none)) b
-  rest none b true = refl
-  rest none b false = refl
-  rest outOfRange b q = refl
-  rest shortWindow b q = refl
-  rest badDelay b q = refl
-  rest longHistory b q = refl
-  rest aboveLimit b q = refl
-  rest shortBuffer b q = refl
-  rest badMemory b q = refl
-  rest outsideSetting b q = refl
-  rest badTick b q = refl
-  rest noneInFlight b q = refl
-
-  -- refusals 1 to 9 are those of set-up, then 7, then 8 and 9
   pub call-test : (tick bank thread : ℕ)
-      → callRefusal document01 s seeds st tick bank thread
-      ≡ orElse setupTest (refuse (not (memoryTest s (st .head) (st .ticks))) badMemory (placeRefusal s (st .head .last) tick bank thread))
-  unfolding callRefusal tooShort shortTest memoryOk memoryTest placeRefusal
+      → callRefusal m s seeds st tick bank thread
+      ≡ callTest m s seeds (st .head) (length (st .counters)) (st .ticks) (length (st .rows)) (length (st .threads)) tick bank thread
+  unfolding callRefusal callTest tooShort setupTest shortTest memoryOk memoryTest placeRefusal
   call-test tick bank thread =
-      rest (settingRefusal limits01 s seeds)
+      refuse-parts (settingRefusal m s seeds) (shortTest s (length (st .counters)) (length (st .ticks)) (length (st .rows)) (length (st .threads)))
       (refuse (not (memoryTest s (st .head) (st .ticks))) badMemory (placeRefusal s (st .head .last) tick bank thread))
-      (shortTest s (length (st .counters)) (length (st .ticks)) (length (st .rows)) (length (st .threads)))
 
-module _ (s : Setting) (seeds : List ℕ) (st : State) (tick bank thread : ℕ) (passed : refusalNumber (setupTest s seeds st) ≡ 0) where
-  beyond : callRefusal document01 s seeds st tick bank thread
-      ≡ refuse (not (memoryTest s (st .head) (st .ticks))) badMemory (placeRefusal s (st .head .last) tick bank thread)
-  beyond =
-      call-test s seeds st tick bank thread
-      ∙ orElse-second (setupTest s seeds st) (refuse (not (memoryTest s (st .head) (st .ticks))) badMemory (placeRefusal s (st .head .last) tick bank thread)) passed
+  pub done-test : (tick bank thread : ℕ)
+      → doneRefusal m s seeds st tick bank thread
+      ≡ doneTest m s seeds (st .head) (length (st .counters)) (st .ticks) (length (st .rows)) (st .threads) tick bank thread
+  unfolding doneRefusal doneTest
+  done-test tick bank thread = rw (call-test tick bank thread)
 
-  pub call-memory : memoryTest s (st .head) (st .ticks) ≡ false → callRefusal document01 s seeds st tick bank thread ≡ badMemory
-  call-memory e = beyond ∙ rw e
+-- ---- what the tests that are passed tell
 
-  pub call-place : memoryTest s (st .head) (st .ticks) ≡ true → callRefusal document01 s seeds st tick bank thread ≡ placeRefusal s (st .head .last) tick bank thread
-  call-place e = beyond ∙ rw e
+-- of refusals 1 to 6
+pub record Lengths (m : Limits) (s : Setting) (seeds : List ℕ) (ticks threads : ℕ) : Type 0 where
+  pub setting : Accepted m s seeds
+  pub ticks-long : historyLength s ≤ ticks
+  pub threads-long : threadsUsed s ≤ threads
 
--- 10 comes after the refusals of a call
-module _ (s : Setting) (seeds : List ℕ) (st : State) (tick bank thread : ℕ) where
-  pub done-first : refusalNumber (callRefusal document01 s seeds st tick bank thread) ≢ 0
-      → doneRefusal document01 s seeds st tick bank thread ≡ callRefusal document01 s seeds st tick bank thread
-  unfolding doneRefusal
-  done-first h = orElse-first (callRefusal document01 s seeds st tick bank thread) _ h
+pub tested-setup : (m : Limits) (s : Setting) (seeds : List ℕ) (counters ticks rows threads : ℕ)
+    → refusalNumber (setupTest m s seeds counters ticks rows threads) ≡ 0 → Lengths m s seeds ticks threads
+unfolding setupTest shortTest
+tested-setup m s seeds counters ticks rows threads e =
+    let r = orElse-none (settingRefusal m s seeds) _ (number-none (setupTest m s seeds counters ticks rows threads) e) in
+    let q = refuse-none (shortTest s counters ticks rows threads) shortBuffer none (omega arith) (r .1) in
+    let a = ltb counters (countersUsed s) in
+    let b = ltb ticks (historyLength s) in
+    let c = ltb rows (historyLength s) in
+    let d = ltb threads (threadsUsed s) in
+    let n3 = not-or (a || b || c) d (q .0) in
+    let n1 = not-or a b (not-or (a || b) c (n3 .0) .0) in
+    record {
+      setting = accepted m s seeds (r .0);
+      ticks-long = nltb→le ticks (historyLength s) (n1 .1);
+      threads-long = nltb→le threads (threadsUsed s) (n3 .1);
+    }
 
-  pub done-last : (flying : ℕ) → flying ≡ getD (st .threads) (threadCell s bank thread 2) 0 → refusalNumber (callRefusal document01 s seeds st tick bank thread) ≡ 0
-      → doneRefusal document01 s seeds st tick bank thread ≡ refuse (eqb flying 0) noneInFlight none
-  unfolding doneRefusal
-  done-last flying e h =
-      rw e (orElse-second (callRefusal document01 s seeds st tick bank thread) (refuse (eqb (getD (st .threads) (threadCell s bank thread 2) 0) 0) noneInFlight none) h)
+-- of refusals 1 to 9
+pub record Tested (m : Limits) (s : Setting) (seeds : List ℕ) (threads bank thread : ℕ) : Type 0 where
+  pub setting : Accepted m s seeds
+  pub threads-long : threadsUsed s ≤ threads
+  pub bank-in : bank < s .banks
+  pub thread-in : thread < s .threads
+
+pub tested-call : (m : Limits) (s : Setting) (seeds : List ℕ) (h : Head) (counters : ℕ) (ticks : List ℕ) (rows threads tick bank thread : ℕ)
+    → refusalNumber (callTest m s seeds h counters ticks rows threads tick bank thread) ≡ 0 → Tested m s seeds threads bank thread
+unfolding callTest placeRefusal
+tested-call m s seeds h counters ticks rows threads tick bank thread e =
+    let r6 = orElse-none (setupTest m s seeds counters (length ticks) rows threads) _
+    (number-none (callTest m s seeds h counters ticks rows threads tick bank thread) e) in
+    let r7 = refuse-none (not (memoryTest s h ticks)) badMemory _ (omega arith) (r6 .1) in
+    let r8 = refuse-none (leb (s .banks) bank || leb (s .threads) thread) outsideSetting _ (omega arith) (r7 .1) in
+    let n8 = not-or (leb (s .banks) bank) (leb (s .threads) thread) (r8 .0) in
+    let k = tested-setup m s seeds counters (length ticks) rows threads (ap refusalNumber (r6 .0)) in
+    record {
+      setting = k .setting;
+      threads-long = k .threads-long;
+      bank-in = nleb→lt (s .banks) bank (n8 .0);
+      thread-in = nleb→lt (s .threads) thread (n8 .1);
+    }

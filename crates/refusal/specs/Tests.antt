@@ -1,15 +1,16 @@
--- The tests of a call's refusals, from the numbers and the list that each looks at.
+-- The tests of a call's refusals, from the numbers and the lists that each looks at; no test looks into a counter.
 use Prim.Native.Nat.{ℕ, _^_}
 use mathlib.Core.List.{List}
-use mathlib.Core.Bool.{Bool, _&&_, _||_}
-use lib.Dec.{leb, ltb}
-use lib.ListN.{getD}
+use mathlib.Core.Bool.{Bool, not, _&&_, _||_}
+use lib.Dec.{leb, ltb, eqb}
+use lib.ListN.{length, getD}
 use Rattle.rules.specs.declared.Setting.{Setting}
+use Rattle.rules.specs.declared.Limits.{Limits}
 use Rattle.rules.specs.declared.Head.{Head}
 use Rattle.rules.specs.Cells.{every}
-use Rattle.rules.specs.Answers.{Refusal, none, outsideSetting, badTick, refuse}
-use Rattle.rules.specs.Setting.{historyLength}
-use Rattle.rules.specs.State.{countersUsed, threadsUsed}
+use Rattle.rules.specs.Answers.{Refusal, none, shortBuffer, badMemory, outsideSetting, badTick, noneInFlight, refuse, orElse}
+use Rattle.rules.specs.Setting.{historyLength, settingRefusal}
+use Rattle.rules.specs.State.{countersUsed, threadsUsed, threadCell}
 use Rattle.rules.specs.History.{notAfter, neverRises}
 
 -- refusal 6, by the lengths of the buffers
@@ -30,3 +31,20 @@ memoryTest s h ticks =
 unfoldable pub placeRefusal : Setting → ℕ → ℕ → ℕ → ℕ → Refusal
 placeRefusal s last tick bank thread =
     refuse (leb (s .banks) bank || leb (s .threads) thread) outsideSetting (refuse (ltb tick last || leb (2 ^ 62) tick) badTick none)
+
+-- refusals 1 to 6, by the lengths of the buffers
+unfoldable pub setupTest : Limits → Setting → List ℕ → ℕ → ℕ → ℕ → ℕ → Refusal
+setupTest m s seeds counters ticks rows threads =
+    orElse (settingRefusal m s seeds) (refuse (shortTest s counters ticks rows threads) shortBuffer none)
+
+-- refusals 1 to 9: of counters, rows and thread counters the lengths are enough
+unfoldable pub callTest : Limits → Setting → List ℕ → Head → ℕ → List ℕ → ℕ → ℕ → ℕ → ℕ → ℕ → Refusal
+callTest m s seeds h counters ticks rows threads tick bank thread =
+    orElse (setupTest m s seeds counters (length ticks) rows threads)
+    (refuse (not (memoryTest s h ticks)) badMemory (placeRefusal s (h .last) tick bank thread))
+
+-- refusals 1 to 10, with the thread counters
+unfoldable pub doneTest : Limits → Setting → List ℕ → Head → ℕ → List ℕ → ℕ → List ℕ → ℕ → ℕ → ℕ → Refusal
+doneTest m s seeds h counters ticks rows threads tick bank thread =
+    orElse (callTest m s seeds h counters ticks rows (length threads) tick bank thread)
+    (refuse (eqb (getD threads (threadCell s bank thread 2) 0) 0) noneInFlight none)

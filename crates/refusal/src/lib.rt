@@ -1,18 +1,17 @@
-// Refusals 1 to 10 of the calls, in their order.
+// Refusals 1 to 10 of the calls, in their order, for any limits of the setting. No function here knows the width of a counter.
 use rules::Head;
+use rules::Limits;
 use rules::Setting;
 ghost use mathlib.Core.Path.{_≡_};
-ghost use Prim.Native.Nat.{_≤_, _<_};
+ghost use Prim.Native.Nat.{_≤_, _<_, _^_};
 ghost use lib.Dec.{eqb};
 ghost use lib.ListN.{length, getD};
 ghost use Rattle.rules.specs.Cells.{every};
-ghost use Rattle.rules.specs.Answers.{none, shortBuffer, noneInFlight, refusalNumber, refuse, orElse};
-ghost use Rattle.rules.specs.Setting.{historyLength, settingRefusal};
-ghost use Rattle.rules.specs.State.{threadsUsed, threadCell, state};
+ghost use Rattle.rules.specs.Answers.{none, noneInFlight, refusalNumber, refuse};
+ghost use Rattle.rules.specs.Setting.{historyLength};
+ghost use Rattle.rules.specs.State.{threadsUsed, threadCell};
 ghost use Rattle.rules.specs.History.{notAfter};
-ghost use Rattle.rules.specs.Policy.{limits01, document01};
-ghost use Rattle.rules.specs.Calls.{callRefusal, doneRefusal};
-ghost use Rattle.refusal.specs.Tests.{memoryTest, shortTest, placeRefusal};
+ghost use Rattle.refusal.specs.Tests.{memoryTest, shortTest, placeRefusal, setupTest, callTest, doneTest};
 
 // Whether no bank of the setting has a stored tick after the last tick.
 fn banks_past(h: Head, banks: u64) -> bool
@@ -88,8 +87,9 @@ fn too_short(
     (threads as u64) < s.banks * s.threads * 3
 }
 
-// Refusals 1 to 5, with the limits of document 01, and 6.
+// Refusals 1 to 6. Of the buffers it takes the lengths.
 pub fn setup_refusal(
+    m: Limits,
     s: Setting,
     seeds: &[u16],
     counters: usize,
@@ -97,9 +97,10 @@ pub fn setup_refusal(
     rows: usize,
     threads: usize,
 ) -> u32
-    ensures { λ r. ⌜ r ≡ refusalNumber (orElse (settingRefusal limits01 s (now (seeds .entry))) (refuse (shortTest s counters ticks rows threads) shortBuffer none)) ⌝ }
+    requires { ⌜ m .threshold ≤ 2 ^ 20 ⌝ }
+    ensures { λ r. ⌜ r ≡ refusalNumber (setupTest m s (now (seeds .entry)) counters ticks rows threads) ⌝ }
 {
-    let code = setting::refusal(s, seeds, 32768, 4096);
+    let code = setting::refusal(m, s, seeds);
     if code != 0 {
         return code;
     }
@@ -133,29 +134,24 @@ pub fn place_refusal(s: Setting, last: u64, tick: u64, bank: u64, thread: u64) -
     if 4611686018427387904 <= tick { 9 } else { 0 }
 }
 
-// Refusals 1 to 9 of a call with a tick, a bank and a thread.
+// Refusals 1 to 9 of a call with a tick, a bank and a thread. Of counters, rows and thread counters it takes the lengths.
 pub fn call_refusal(
+    m: Limits,
     s: Setting,
     seeds: &[u16],
     h: Head,
-    counters: &[u16],
+    counters: usize,
     ticks: &[u64],
-    rows: &[u32],
-    threads: &[u32],
+    rows: usize,
+    threads: usize,
     tick: u64,
     bank: u64,
     thread: u64,
 ) -> u32
-    ensures { λ r. ⌜ r ≡ refusalNumber (callRefusal document01 s (now (seeds .entry)) (state h (now (counters .entry)) (now (ticks .entry)) (now (rows .entry)) (now (threads .entry))) tick bank thread) ⌝ }
+    requires { ⌜ m .threshold ≤ 2 ^ 20 ⌝ }
+    ensures { λ r. ⌜ r ≡ refusalNumber (callTest m s (now (seeds .entry)) h counters (now (ticks .entry)) rows threads tick bank thread) ⌝ }
 {
-    let code = setup_refusal(
-        s,
-        seeds,
-        counters.len(),
-        ticks.len(),
-        rows.len(),
-        threads.len(),
-    );
+    let code = setup_refusal(m, s, seeds, counters, ticks.len(), rows, threads);
     if code != 0 {
         return code;
     }
@@ -176,27 +172,30 @@ pub fn flying_refusal(s: Setting, threads: &[u32], bank: u64, thread: u64) -> u3
 
 // Refusals 1 to 10 of a done.
 pub fn done_refusal(
+    m: Limits,
     s: Setting,
     seeds: &[u16],
     h: Head,
-    counters: &[u16],
+    counters: usize,
     ticks: &[u64],
-    rows: &[u32],
+    rows: usize,
     threads: &[u32],
     tick: u64,
     bank: u64,
     thread: u64,
 ) -> u32
-    ensures { λ r. ⌜ r ≡ refusalNumber (doneRefusal document01 s (now (seeds .entry)) (state h (now (counters .entry)) (now (ticks .entry)) (now (rows .entry)) (now (threads .entry))) tick bank thread) ⌝ }
+    requires { ⌜ m .threshold ≤ 2 ^ 20 ⌝ }
+    ensures { λ r. ⌜ r ≡ refusalNumber (doneTest m s (now (seeds .entry)) h counters (now (ticks .entry)) rows (now (threads .entry)) tick bank thread) ⌝ }
 {
     let code = call_refusal(
+        m,
         s,
         seeds,
         h,
         counters,
         ticks,
         rows,
-        threads,
+        threads.len(),
         tick,
         bank,
         thread,

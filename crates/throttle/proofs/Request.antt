@@ -25,7 +25,7 @@ use Rattle.rules.specs.Tested.{Accepted, Taken, Sound}
 use Rattle.rules.proofs.Places.{places-within}
 use Rattle.rules.proofs.Memory.{memory, taken-memory, turned-long, activated-long, activated-memory}
 use Rattle.rules.proofs.Step.{opened-rules}
-use Rattle.rules.proofs.Fits.{quota-most}
+use Rattle.rules.proofs.Regular.{quota-most}
 use Rattle.decision.specs.declared.View.{View}
 use Rattle.throttle.specs.Left.{outcome}
 use Rattle.decision.specs.Numbers.{decideFrom, viewOf}

@@ -1,46 +1,25 @@
--- `filter::bank_estimate` meets its contract: the part's estimate is the bank's.
-use Prim.Native.Nat.{_*_}
-use mathlib.Core.Path.{refl, _∙_}
-use Rattle.filter.proofs.Parts.{part-estimate}
+-- `filter::bank_estimate` meets its contract: the estimate with the places of the filter that is asked for.
+use Rattle.filter.proofs.Counting.{pick-first, pick-second}
 use borrow.Author.Needs.{needs}
 use Rattle.filter.proofs.bank_estimate.Statement.{statement}
 use Rattle.filter.proofs.bank_estimate.Tie as tie
 
-mul-start : tie.Need-mul-start
-mul-start c = search needs
-
-add-estimate : tie.Need-add-estimate
-add-estimate c = search needs
-
-mul-estimate : tie.Need-mul-estimate
-mul-estimate c = search needs
-
-sub-estimate : tie.Need-sub-estimate
-sub-estimate c = search needs
-
-part-estimate-start : tie.Need-part-estimate-start
-part-estimate-start c = search needs
-
-part-estimate-end : tie.Need-part-estimate-end
-part-estimate-end c = search needs
-
-estimate-requires : tie.Need-estimate-requires
-estimate-requires c κs = search needs
+one-estimate-requires : tie.Need-one-estimate-requires
+one-estimate-requires c κs = search needs
 
 returns : tie.Need-returns
 returns c =
     let a = c .before .before .before .args in
-    c .estimate .ensures ∙ part-estimate (a .counters .now) (a .bank * 2048) (a .bank) (a .f) (a .«at») refl (search needs) (search needs)
+    pick-first (a .counters .now) (a .bank) (a .f) (a .«at») (a .other) (c .one-estimate .result) (c .before .if1 .taken) (c .one-estimate .ensures)
+
+one-estimate-requires-2 : tie.Need-one-estimate-requires-2
+one-estimate-requires-2 c κs = search needs
+
+returns-2 : tie.Need-returns-2
+returns-2 c =
+    let a = c .before .before .before .args in
+    pick-second (a .counters .now) (a .bank) (a .f) (a .«at») (a .other) (c .one-estimate2 .result) (c .before .if1 .left) (c .one-estimate2 .ensures)
 
 pub bank-estimate-spec : {M : Type 1} → statement M
 bank-estimate-spec =
-    tie.close
-    (tie.spec
-    mul-start
-    add-estimate
-    mul-estimate
-    sub-estimate
-    part-estimate-start
-    part-estimate-end
-    estimate-requires
-    returns)
+    tie.close (tie.spec one-estimate-requires returns one-estimate-requires-2 returns-2)

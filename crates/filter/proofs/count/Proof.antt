@@ -16,7 +16,7 @@ same-length c = search needs
 returns : tie.Need-returns
 returns c =
     let a = c .before .before .before .before .before .before .before .before .before .args in
-    counted-row (a .n) (a .bank) (a .«at») (a .counters .now) (c .before .before .before .before .before .before .count-in .last .0) (c .before .before .count-in2 .last .0) (search needs) (search needs) (c .before .before .before .before .before .before .count-in .ensures) (c .before .before .count-in2 .ensures)
+    counted-row (a .n) (a .bank) (a .«at») (a .other) (a .counters .now) (c .before .before .before .before .before .before .count-in .last .0) (c .before .before .count-in2 .last .0) (search needs) (search needs) (search needs) (search needs) (c .before .before .before .before .before .before .count-in .ensures) (c .before .before .count-in2 .ensures)
 
 pub count-spec : {M : Type 1} → statement M
 count-spec =

@@ -1,7 +1,7 @@
 -- `quota::share`: the product fits 32 bits, and the quotient is the definition's and at most Q.
 use mathlib.Core.Path.{_∙_}
 use native.Mathlib.Omega.{arith}
-use Rattle.rules.proofs.Fits.{quota-most}
+use Rattle.rules.proofs.Regular.{quota-most}
 use Rattle.quota.proofs.Index.{share-small, quota-is}
 use borrow.Author.Needs.{needs}
 use Rattle.quota.proofs.share.Statement.{statement}
