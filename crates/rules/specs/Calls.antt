@@ -50,6 +50,9 @@ pub record Outcome : Type 0 where
   pub reply : Reply
   pub state : State
 
+abbrev pub outcome : Reply → State → Outcome
+outcome reply st = record { reply = reply; state = st }
+
 -- "Set-up has no 7 to 10."
 unfoldable pub setupRefusal : Limits → Setting → List ℕ → State → Refusal
 setupRefusal m s seeds st = orElse (settingRefusal m s seeds) (refuse (tooShort s st) shortBuffer none)
@@ -90,6 +93,9 @@ requested p s at st bank thread row =
     record { reply = answered a; state = afterAnswer a st (activated s at st bank thread row) }
 
 -- "a done takes 1 from in flight"
+abbrev pub oneLess : Setting → ℕ → ℕ → List ℕ → List ℕ
+oneLess s bank thread ts = set ts (threadCell s bank thread 2) (getD ts (threadCell s bank thread 2) 0 - 1)
+
 unfoldable pub reported : Setting → State → ℕ → ℕ → Outcome
 reported s st bank thread =
     record {
@@ -99,7 +105,7 @@ reported s st bank thread =
         counters = st .counters;
         ticks = st .ticks;
         rows = st .rows;
-        threads = set (st .threads) (threadCell s bank thread 2) (getD (st .threads) (threadCell s bank thread 2) 0 - 1);
+        threads = oneLess s bank thread (st .threads);
       };
     }
 

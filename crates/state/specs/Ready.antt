@@ -1,23 +1,33 @@
--- What the functions below the exported calls may count on: a state on which a call of the setting is not refused, with its clock at the call's tick.
+-- What the functions below the exported calls may count on: an accepted setting, and a state on which a call is not refused, with its clock at
+-- the call's tick. None of them looks at the filters.
 use Prim.Native.Nat.{ℕ, _^_, _≤_, _<_}
+use mathlib.Core.List.{List}
+use lib.ListN.{length}
 use Rattle.rules.specs.declared.Setting.{Setting}
+use Rattle.rules.specs.declared.Limits.{Limits}
+use Rattle.rules.specs.declared.Head.{Head}
 use Rattle.rules.specs.Setting.{epochLength, historyLength}
-use Rattle.rules.specs.State.{State}
-use Rattle.rules.specs.Policy.{limits01}
-use Rattle.rules.specs.Tested.{Ranges, Long, Memory}
+use Rattle.rules.specs.State.{threadsUsed}
+use Rattle.rules.specs.Tested.{Ranges, Memory}
+
+-- the widest limits for which the arithmetic of the calls is proved: N to 2^20, H to 32,768
+abbrev pub widest : Limits
+widest = record { threshold = 2 ^ 20; history = 32768 }
 
 -- what the arithmetic of the calls needs of an accepted setting
 pub record Bounds (s : Setting) : Type 0 where
-  pub ranges : Ranges limits01 s
+  pub ranges : Ranges widest s
   pub epoch : 2 ≤ epochLength s
   pub delay : s .td ≤ epochLength s
   pub scale : s .n < s .l
-  pub history : historyLength s ≤ 4096
+  pub history : historyLength s ≤ 32768
 
-pub record Ready (s : Setting) (st : State) (bank thread : ℕ) : Type 0 where
+pub record Ready (s : Setting) (h : Head) (ticks rows threads : List ℕ) (bank thread : ℕ) : Type 0 where
   pub bounds : Bounds s
-  pub long : Long s st
-  pub memory : Memory s (st .head) (st .ticks)
+  pub ticks-long : historyLength s ≤ length ticks
+  pub rows-long : historyLength s ≤ length rows
+  pub threads-long : threadsUsed s ≤ length threads
+  pub memory : Memory s h ticks
   pub bank-in : bank < s .banks
   pub thread-in : thread < s .threads
-  pub early : st .head .last < 2 ^ 62
+  pub early : h .last < 2 ^ 62

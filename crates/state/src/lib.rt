@@ -1,13 +1,14 @@
-// How the state moves, the clock and an activation, and what the decision on a request looks at. All on a state that passed the tests.
+// How the state moves apart from the filters, the clock and an activation, and what the decision on a request looks at. All on a state that
+// passed the tests; no function here knows the width of a counter.
 use rules::Head;
 use rules::Setting;
 ghost use mathlib.Core.Path.{_≡_};
-ghost use Prim.Native.Nat.{_*_, _/_, _≤_, _<_};
-ghost use lib.ListN.{length, getD};
-ghost use Rattle.rules.specs.State.{countersUsed, threadsUsed, threadCell, rowWord, state};
-ghost use Rattle.rules.specs.Clock.{epoch, turnedCounters, turnedThreads, movedHead};
-ghost use Rattle.rules.specs.Filter.{Within, blacklisted};
-ghost use Rattle.rules.specs.Decision.{activeEstimate, activated};
+ghost use Prim.Native.Nat.{_+_, _*_, _/_, _^_, _≤_, _<_};
+ghost use lib.ListN.{length, getD, set};
+ghost use Rattle.rules.specs.Setting.{historyLength};
+ghost use Rattle.rules.specs.State.{threadsUsed, threadCell, rowWord};
+ghost use Rattle.rules.specs.Clock.{epoch, turnedThreads, movedHead};
+ghost use Rattle.rules.specs.Decision.{activatedHead, activatedThreads};
 ghost use Rattle.state.specs.Ready.{Bounds, Ready};
 
 pub mod look;
@@ -32,47 +33,47 @@ fn epoch_from(tick: u64, e: u64, length: u64) -> u64
     }
 }
 
-// The head with its clock moved, and the epoch of its last tick.
+// The head with its clock moved, and the epochs of its last tick before and after.
 pub struct Turned {
     pub head: Head,
-    pub epoch: u64,
+    pub from: u64,
+    pub to: u64,
 }
 
-// The clock moved to a tick: clears what an epoch's turn clears, and gives the head.
-pub fn turn(s: Setting, h: Head, counters: &mut [u16], threads: &mut [u32], tick: u64) -> Turned
-    requires { ⌜ Bounds s × (countersUsed s ≤ length (now counters)) × (threadsUsed s ≤ length (now threads)) × (h .last ≤ tick) ⌝ }
-    ensures { λ r. ⌜ (r .head ≡ movedHead h tick) × (now (counters .exit) ≡ turnedCounters (countersUsed s) (epoch s (h .last)) (epoch s tick) (now (counters .entry))) × (now (threads .exit) ≡ turnedThreads (threadsUsed s) (epoch s (h .last)) (epoch s tick) (now (threads .entry))) × (r .epoch ≡ epoch s tick) ⌝ }
+// The clock moved to a tick: clears what an epoch's turn clears of the thread counters, and gives the head. The filters are turned by the
+// two epochs.
+pub fn turn(s: Setting, h: Head, threads: &mut [u32], tick: u64) -> Turned
+    requires { ⌜ Bounds s × (threadsUsed s ≤ length (now threads)) × (h .last ≤ tick) ⌝ }
+    ensures { λ r. ⌜ (r .head ≡ movedHead h tick) × (now (threads .exit) ≡ turnedThreads (threadsUsed s) (epoch s (h .last)) (epoch s tick) (now (threads .entry))) × (r .from ≡ epoch s (h .last)) × (r .to ≡ epoch s tick) × (r .from < 2 ^ 63) ⌝ }
 {
     let length = s.w / 2;
     let from = h.last / length;
     let to = epoch_from(tick, from, length);
-    filter::turn(counters, s.banks as usize, from, to);
     quota::turn(threads, (s.banks * s.threads * 3) as usize, from, to);
     Turned {
         head: h.moved(tick),
-        epoch: to,
+        from,
+        to,
     }
 }
 
-// An activation at the last tick: counts the row, records it, and gives the head. black says whether the row was blacklisted.
+// An activation at the last tick, apart from the filters: records the row in the history, counts it for the thread, and gives the head.
+// black says whether the row was blacklisted.
 pub fn activate(
     s: Setting,
     h: Head,
-    counters: &mut [u16],
     ticks: &mut [u64],
     rows: &mut [u32],
     threads: &mut [u32],
-    four: [usize; 4],
     bank: u64,
     thread: u64,
     row: u16,
     black: bool,
 ) -> Head
-    requires { ⌜ Ready s (state h (now counters) (now ticks) (now rows) (now threads)) bank thread × Within four × (getD (now threads) (threadCell s bank thread 2) 0 < 255) × (black ≡ blacklisted (s .n) (activeEstimate s (λ f. four) (state h (now counters) (now ticks) (now rows) (now threads)) bank)) ⌝ }
-    ensures { λ r. ⌜ state r (now (counters .exit)) (now (ticks .exit)) (now (rows .exit)) (now (threads .exit)) ≡ activated s (λ f. four) (state h (now (counters .entry)) (now (ticks .entry)) (now (rows .entry)) (now (threads .entry))) bank thread row ⌝ }
+    requires { ⌜ Ready s h (now ticks) (now rows) (now threads) bank thread × (getD (now threads) (threadCell s bank thread 2) 0 < 255) ⌝ }
+    ensures { λ r. ⌜ (r ≡ activatedHead (historyLength s) h bank) × (now (ticks .exit) ≡ set (now (ticks .entry)) (h .next) (h .last + 1)) × (now (rows .exit) ≡ set (now (rows .entry)) (h .next) (rowWord bank row)) × (now (threads .exit) ≡ activatedThreads s (now (threads .entry)) bank thread black) ⌝ }
 {
     let places = setting::history_length(s);
-    filter::count(counters, bank as usize, four, s.n as u16);
     history::record(ticks, rows, h.next as usize, h.last, row_word(bank, row));
     quota::activate(threads, s, bank, thread, black);
     h.activated(places as u64, bank as usize)

@@ -10,9 +10,8 @@ ghost use lib.Dec.{ltb};
 ghost use lib.ListN.{length};
 ghost use Rattle.rules.specs.Setting.{historyLength};
 ghost use Rattle.rules.specs.Clock.{epoch};
-ghost use Rattle.rules.specs.Filter.{Within};
+ghost use Rattle.rules.specs.Policy.{narrow};
 ghost use Rattle.rules.specs.Tested.{Memory};
-ghost use Rattle.rules.specs.State.{state};
 ghost use Rattle.state.specs.Ready.{Bounds, Ready};
 ghost use Rattle.decision.specs.Numbers.{delayEnd, viewOf};
 
@@ -52,43 +51,42 @@ fn delay(
     history::delay_end(ticks, found, places, s.td)
 }
 
-// Reads the view of a row; e is the epoch of the last tick.
+// Reads the view of a row with these estimates in the active and in the other filter; e is the epoch of the last tick.
 pub fn look(
     s: Setting,
     h: Head,
-    counters: &[u16],
     ticks: &[u64],
     rows: &[u32],
     threads: &[u32],
-    four: [usize; 4],
     bank: u64,
     thread: u64,
     row: u16,
     e: u64,
+    active: u64,
+    other: u64,
 ) -> View
-    requires { ⌜ Ready s (state h (now counters) (now ticks) (now rows) (now threads)) bank thread × Within four × (e ≡ epoch s (h .last)) ⌝ }
-    ensures { λ r. ⌜ r ≡ viewOf s four (state h (now (counters .entry)) (now (ticks .entry)) (now (rows .entry)) (now (threads .entry))) bank thread row ⌝ }
+    requires { ⌜ Ready s h (now ticks) (now rows) (now threads) bank thread × (e ≡ epoch s (h .last)) ⌝ }
+    ensures { λ r. ⌜ r ≡ viewOf narrow s active other h (now (ticks .entry)) (now (rows .entry)) (now (threads .entry)) bank thread row ⌝ }
 {
     let length = s.w / 2;
     let f = (e % 2) as usize;
-    let b = bank as usize;
-    let active = filter::bank_estimate(counters, b, four, f) as u64;
-    let other = filter::bank_estimate(counters, b, four, 1 - f) as u64;
     let cell = quota::cell(s, bank, thread);
     let c = threads[cell + f];
-    let flying = threads[cell + 2];
+    let flying = threads[cell + 2] as u64;
     let quota = quota::quota(s, c);
     let stored = h.bank;
     let rank = h.rank;
     let delay = delay(s, h, ticks, rows, active, other, bank, row);
+    let end = (e + 1) * length;
+    let b = bank as usize;
     View {
-        flying: flying as u64,
+        flying,
         quota,
         bank: stored[b],
         rank: rank[3],
         active,
         other,
         delay,
-        end: (e + 1) * length,
+        end,
     }
 }

@@ -1,8 +1,8 @@
 use mathlib.Core.Path.{refl}
 use Rattle.rules.specs.State.{headWords}
 use borrow.Author.Needs.{needs}
-use Rattle.throttle.proofs.words.store_head.Statement.{statement}
-use Rattle.throttle.proofs.words.store_head.Tie as tie
+use Rattle.words.proofs.store_head.Statement.{statement}
+use Rattle.words.proofs.store_head.Tie as tie
 
 array-read-t7 : tie.Need-array-read-t7
 array-read-t7 c = search needs

@@ -1,8 +1,8 @@
 use mathlib.Core.Path.{refl}
 use Rattle.rules.specs.State.{headOf}
 use borrow.Author.Needs.{needs}
-use Rattle.throttle.proofs.words.load_head.Statement.{statement}
-use Rattle.throttle.proofs.words.load_head.Tie as tie
+use Rattle.words.proofs.load_head.Statement.{statement}
+use Rattle.words.proofs.load_head.Tie as tie
 
 element-copy-out-t4 : tie.Need-element-copy-out-t4
 element-copy-out-t4 c = search needs
