@@ -85,29 +85,3 @@ module _ (s : Setting) (seeds words counters ticks rows threads : List ℕ) wher
   unfolding leaves step indexShown turned movedHead
   left-index tick bank thread out e h c th count scale quota eh ec eth en es eq =
       rw (unless-taken (callRefusal document01 s seeds before tick bank thread) before (indexShown document01 s (turned s before tick) bank thread) e, eq, es, en, eh, ec, eth)
-
--- ---- a done
-
--- the turn keeps what is in flight
-pub turned-flying : (s : Setting) (bank thread e e′ : ℕ) (ts : List ℕ)
-    → getD (turnedThreads (threadsUsed s) e e′ ts) (threadCell s bank thread 2) 0 ≡ getD ts (threadCell s bank thread 2) 0
-unfolding turnedThreads
-turned-flying s bank thread e e′ ts =
-    clear-kept (λ i. ltb i (threadsUsed s) && (ltb (i % 3) 2 && clears e e′ (i % 3))) (threadCell s bank thread 2) ts stays
-  where
-    in-used : Bool
-    in-used = ltb (threadCell s bank thread 2) (threadsUsed s)
-
-    counter : Bool
-    counter = ltb (threadCell s bank thread 2 % 3) 2
-
-    cleared : Bool
-    cleared = clears e e′ (threadCell s bank thread 2 % 3)
-
-    stays : T (not (in-used && (counter && cleared)))
-    stays = not-T (in-used && (counter && cleared)) (λ q.
-        omega (arith, ltb→lt (threadCell s bank thread 2 % 3) 2 (and-l counter cleared (and-r in-used (counter && cleared) q))))
-
-pub some-flying : (x : ℕ) → T (not (eqb x 0)) → 1 ≤ x
-some-flying zero h = absurd h
-some-flying (suc x) h = omega arith

@@ -1,11 +1,10 @@
 -- `done` turns the state to the tick and takes one from in flight, which the turn keeps.
 use native.Mathlib.Omega.{arith}
 use Rattle.rules.specs.Clock.{epoch}
-use Rattle.throttle.specs.Left.{oneLess}
-use Rattle.throttle.proofs.Settled.{turned-flying}
+use Rattle.calls.proofs.Flying.{turned-flying}
 use borrow.Author.Needs.{needs}
-use Rattle.throttle.proofs.calls.done.Statement.{statement}
-use Rattle.throttle.proofs.calls.done.Tie as tie
+use Rattle.calls.proofs.done.Statement.{statement}
+use Rattle.calls.proofs.done.Tie as tie
 
 turn-requires : tie.Need-turn-requires
 turn-requires c κs =
@@ -27,7 +26,6 @@ same-length-2 : tie.Need-same-length-2
 same-length-2 c = search needs
 
 returns : tie.Need-returns
-unfolding oneLess
 returns c =
     let e = c .before .before .before .before .before .before .before .before .before .turn .ensures .2 in
     (c .before .before .before .before .before .before .before .before .before .turn .ensures .0, c .before .before .before .before .before .before .before .before .before .turn .ensures .1, rw e at (c .before .before .finish .ensures))

@@ -6,8 +6,8 @@ use lib.ListN.{getD}
 use Rattle.rules.specs.State.{threadCell}
 use Rattle.quota.proofs.Index.{cell-at}
 use borrow.Author.Needs.{needs}
-use Rattle.throttle.proofs.calls.index.Statement.{statement}
-use Rattle.throttle.proofs.calls.index.Tie as tie
+use Rattle.calls.proofs.index.Statement.{statement}
+use Rattle.calls.proofs.index.Tie as tie
 
 turn-requires : tie.Need-turn-requires
 turn-requires c κs =

@@ -1,13 +1,13 @@
-// The calls on a state that passed the tests of refusals 1 to 9, for callers in Rattle that own their memory.
-// Each leaves a state that passes the tests of 6 and 7, so that such a caller tests bank, thread and tick only.
-use crate::words::answer_number;
+// Request, done and index on a state with 16-bit filters that passed the tests of refusals 1 to 9. Each leaves a state that passes the tests
+// of 6 and 7, so that a caller that owns its memory tests bank, thread and tick only.
 use decision::decide;
+use narrow::activate;
+use narrow::look;
+use narrow::turn;
 use rules::Answer;
 use rules::Head;
 use rules::Setting;
-use state::activate;
-use state::look::look;
-use state::turn;
+use words::answer_number;
 ghost use mathlib.Core.Path.{_≡_};
 ghost use Prim.Native.Nat.{_≤_, _<_};
 ghost use lib.ListN.{length, getD};
@@ -16,11 +16,10 @@ ghost use Rattle.rules.specs.Setting.{indexScale};
 ghost use Rattle.rules.specs.State.{countersUsed, threadsUsed, threadCell, state};
 ghost use Rattle.rules.specs.Clock.{epoch, activeFilter, turnedCounters, turnedThreads, movedHead, turned};
 ghost use Rattle.rules.specs.Hash.{places};
-ghost use Rattle.rules.specs.Quota.{quotaDown, indexCounter};
-ghost use Rattle.rules.specs.Policy.{document01};
-ghost use Rattle.rules.specs.Calls.{answered, callRefusal, requested};
+ghost use Rattle.rules.specs.Quota.{indexCounter};
+ghost use Rattle.rules.specs.Policy.{limits01, narrow};
 ghost use Rattle.rules.specs.Tested.{Sound};
-ghost use Rattle.throttle.specs.Left.{outcome, oneLess};
+ghost use Rattle.rules.specs.Calls.{answered, callRefusal, outcome, requested, oneLess};
 ghost use Rattle.state.specs.Ready.{Bounds};
 
 // The answer to a request, with the head after it.
@@ -43,8 +42,8 @@ pub fn request(
     thread: u64,
     row: u16,
 ) -> Decided
-    requires { ⌜ callRefusal document01 s (now seeds) (state h (now counters) (now ticks) (now rows) (now threads)) tick bank thread ≡ none ⌝ }
-    ensures { λ r. ⌜ (outcome (answered (r .answer)) (state (r .head) (now (counters .exit)) (now (ticks .exit)) (now (rows .exit)) (now (threads .exit))) ≡ requested document01 s (λ f. places (now (seeds .entry)) row) (turned s (state h (now (counters .entry)) (now (ticks .entry)) (now (rows .entry)) (now (threads .entry))) tick) bank thread row) × Sound s (state (r .head) (now (counters .exit)) (now (ticks .exit)) (now (rows .exit)) (now (threads .exit))) ⌝ }
+    requires { ⌜ callRefusal limits01 s (now seeds) (state h (now counters) (now ticks) (now rows) (now threads)) tick bank thread ≡ none ⌝ }
+    ensures { λ r. ⌜ (outcome (answered (r .answer)) (state (r .head) (now (counters .exit)) (now (ticks .exit)) (now (rows .exit)) (now (threads .exit))) ≡ requested narrow s (λ f. places (now (seeds .entry)) row) (turned s (state h (now (counters .entry)) (now (ticks .entry)) (now (rows .entry)) (now (threads .entry))) tick) bank thread row) × Sound s (state (r .head) (now (counters .exit)) (now (ticks .exit)) (now (rows .exit)) (now (threads .exit))) ⌝ }
 {
     let x = turn(s, h, counters, threads, tick);
     let moved = x.head;
@@ -56,6 +55,7 @@ pub fn request(
         &*ticks,
         &*rows,
         &*threads,
+        four,
         four,
         bank,
         thread,
@@ -76,6 +76,7 @@ pub fn request(
         ticks,
         rows,
         threads,
+        four,
         four,
         bank,
         thread,
@@ -122,7 +123,7 @@ pub fn index(
     thread: u64,
 ) -> Shown
     requires { ⌜ Bounds s × (countersUsed s ≤ length (now counters)) × (threadsUsed s ≤ length (now threads)) × (bank < s .banks) × (thread < s .threads) × (h .last ≤ tick) ⌝ }
-    ensures { λ r. ⌜ (r .head ≡ movedHead h tick) × (now (counters .exit) ≡ turnedCounters (countersUsed s) (epoch s (h .last)) (epoch s tick) (now (counters .entry))) × (now (threads .exit) ≡ turnedThreads (threadsUsed s) (epoch s (h .last)) (epoch s tick) (now (threads .entry))) × (r .c ≡ indexCounter s (now (threads .exit)) bank thread (activeFilter s tick)) × (r .scale ≡ indexScale s) × (r .quota ≡ quotaDown s (r .c)) ⌝ }
+    ensures { λ r. ⌜ (r .head ≡ movedHead h tick) × (now (counters .exit) ≡ turnedCounters (countersUsed s) (epoch s (h .last)) (epoch s tick) (now (counters .entry))) × (now (threads .exit) ≡ turnedThreads (threadsUsed s) (epoch s (h .last)) (epoch s tick) (now (threads .entry))) × (r .c ≡ indexCounter s (now (threads .exit)) bank thread (activeFilter s tick)) × (r .scale ≡ indexScale s) × (r .quota ≡ narrow .quota s (r .c)) ⌝ }
 {
     let x = turn(s, h, counters, threads, tick);
     let head = x.head;

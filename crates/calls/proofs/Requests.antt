@@ -1,0 +1,190 @@
+-- A request that is not refused: what its parts give, put together, for the rules in force under any limits within the widest.
+use Prim.Native.Nat.{ℕ, _^_, _≤_, _<_}
+use mathlib.Core.Path.{_≡_, refl, sym, ap, _∙_}
+use mathlib.Core.Logic.{_≢_}
+use mathlib.Core.List.{List}
+use native.Mathlib.Omega.{arith}
+use lib.Dec.{leb}
+use lib.ListN.{getD}
+use Rattle.rules.specs.declared.Setting.{Setting}
+use Rattle.rules.specs.declared.Limits.{Limits}
+use Rattle.rules.specs.declared.Head.{Head}
+use Rattle.rules.specs.declared.Cause.the-variants.{Bank, Rank, Row}
+use Rattle.rules.specs.declared.Answer.{Answer}
+use Rattle.rules.specs.declared.Answer.the-variants.{Opened, Wait, Quota}
+use Rattle.rules.specs.Answers.{answerNumber}
+use Rattle.rules.specs.Setting.{epochLength}
+use Rattle.rules.specs.State.{State, countersUsed, threadsUsed, threadCell, state}
+use Rattle.rules.specs.Clock.{epoch, turnedCounters, turnedThreads, movedHead, turned}
+use Rattle.rules.specs.Hash.{places}
+use Rattle.rules.specs.Filter.{Within, two, blacklisted}
+use Rattle.rules.specs.Policy.{Policy, inForce}
+use Rattle.rules.specs.Decision.{activeEstimate, decide, activated}
+use Rattle.rules.specs.Tested.{Accepted, Taken, Sound}
+use Rattle.rules.specs.Calls.{answered, afterAnswer, outcome, requested}
+use Rattle.rules.proofs.Accept.{epoch-long, scale-pos}
+use Rattle.rules.proofs.Places.{places-within}
+use Rattle.rules.proofs.Filter.{both-same}
+use Rattle.rules.proofs.Memory.{taken-memory, turned-long, activated-long, activated-memory}
+use Rattle.rules.proofs.Step.{opened-rules}
+use Rattle.rules.proofs.Regular.{in-force-regular}
+use Rattle.rules.proofs.Fits as fits
+use Rattle.decision.specs.declared.View.{View}
+use Rattle.decision.specs.Numbers.{decideFrom, passiveEstimate, viewOf}
+use Rattle.decision.proofs.Views.{decide-view}
+use Rattle.state.specs.Ready.{widest, Bounds, Ready}
+
+-- ---- what an accepted setting gives
+
+-- the limits are within the widest
+pub record Within-widest (m : Limits) : Type 0 where
+  pub threshold : m .threshold ≤ widest .threshold
+  pub history : m .history ≤ widest .history
+
+pub bounds : {m : Limits} {s : Setting} {seeds : List ℕ} → Within-widest m → Accepted m s seeds → Bounds s
+bounds w ok =
+    let r = ok .ranges in
+    record {
+      ranges = record {
+        w-low = r .w-low;
+        w-high = r .w-high;
+        even = r .even;
+        trc-low = r .trc-low;
+        trc-high = r .trc-high;
+        tfaw-low = r .tfaw-low;
+        tfaw-high = r .tfaw-high;
+        n-low = r .n-low;
+        n-high = omega (arith, r .n-high, w .threshold);
+        td-low = r .td-low;
+        td-high = r .td-high;
+        l-low = r .l-low;
+        l-high = r .l-high;
+        q-low = r .q-low;
+        q-high = r .q-high;
+        banks-low = r .banks-low;
+        banks-high = r .banks-high;
+        threads-low = r .threads-low;
+        threads-high = r .threads-high;
+      };
+      epoch = epoch-long ok;
+      delay = ok .delay;
+      scale = scale-pos ok;
+      history = omega (arith, ok .short, w .history);
+    }
+
+-- ---- the clock
+
+pub turned-parts : (s : Setting) (st : State) (tick : ℕ) (h : Head) (counters threads : List ℕ)
+    → h ≡ movedHead (st .head) tick
+    → counters ≡ turnedCounters (countersUsed s) (epoch s (st .head .last)) (epoch s tick) (st .counters)
+    → threads ≡ turnedThreads (threadsUsed s) (epoch s (st .head .last)) (epoch s tick) (st .threads)
+    → state h counters (st .ticks) (st .rows) threads ≡ turned s st tick
+unfolding turned
+turned-parts s st tick h counters threads e1 e2 e3 =
+    λ i. record { head = e1 i; counters = e2 i; ticks = st .ticks; rows = st .rows; threads = e3 i }
+
+-- ---- a request
+
+module _ (m : Limits) (w : Within-widest m) (s : Setting) (seeds : List ℕ) (st : State) (tick bank thread row : ℕ)
+    (k : Taken m s seeds st tick bank thread) where
+  abbrev p : Policy
+  p = inForce m
+
+  abbrev moved : State
+  moved = turned s st tick
+
+  -- the row's places, by filter
+  abbrev at : ℕ → List ℕ
+  at f = places seeds row
+
+  pub ready : Ready s (moved .head) (moved .ticks) (moved .rows) (moved .threads) bank thread
+  unfolding turned movedHead
+  ready =
+      let l = turned-long s st tick (k .long) in
+      record {
+        bounds = bounds w (k .setting);
+        ticks-long = l .ticks;
+        rows-long = l .rows;
+        threads-long = l .threads;
+        memory = taken-memory k;
+        bank-in = k .bank-in;
+        thread-in = k .thread-in;
+        early = k .early;
+      }
+
+  within : Within (places seeds row)
+  within = places-within seeds (k .setting .seeds-ok) row
+
+  -- what the decision looks at
+  abbrev pub view : View
+  view = viewOf p s (activeEstimate s at moved bank) (passiveEstimate s at moved bank) (moved .head) (moved .ticks) (moved .rows) (moved .threads) bank thread row
+
+  -- the stored ticks that the decision looks at are small
+  pub view-small : (v : View) → v ≡ view → (v .bank ≤ 2 ^ 62) × (v .rank ≤ 2 ^ 62)
+  unfolding viewOf turned movedHead
+  view-small v e =
+      rw e (omega (arith, taken-memory k .bank bank (k .bank-in), k .early), omega (arith, taken-memory k .rank 3 (omega arith), k .early))
+
+  -- the decision is the one of the rules
+  pub decision : (v : View) (a : Answer) → v ≡ view → a ≡ decideFrom s tick v
+      → a ≡ decide p s at moved bank thread row
+  unfolding turned movedHead
+  decision v a ev ea =
+      ea ∙ ap (decideFrom s tick) ev
+      ∙ sym (decide-view p s at moved bank thread row (taken-memory k) (k .bank-in) (omega (arith, epoch-long (k .setting))) (k .setting .delay) within)
+
+  -- the row was blacklisted when opened
+  pub black-by-view : (v : View) → v ≡ view → leb (s .n) (v .active) ≡ blacklisted (s .n) (activeEstimate s at moved bank)
+  unfolding viewOf
+  black-by-view v e = ap (λ x. leb (s .n) (x .active)) e
+
+  answer-opened : (a : Answer) → answerNumber a ≡ 0 → a ≡ Opened
+  answer-opened Opened e = refl
+  answer-opened (Wait Bank u) e = absurd (omega arith)
+  answer-opened (Wait Rank u) e = absurd (omega arith)
+  answer-opened (Wait Row u) e = absurd (omega arith)
+  answer-opened Quota e = absurd (omega arith)
+
+  -- an opened request has few in flight
+  pub few-flying : (a : Answer) → a ≡ decide p s at moved bank thread row → answerNumber a ≡ 0 → getD (moved .threads) (threadCell s bank thread 2) 0 < 255
+  few-flying a ea e =
+      fits.few-flying p (in-force-regular m) s seeds moved bank thread (k .setting) (k .bank-in) (k .thread-in)
+      (opened-rules p s at moved bank thread row (sym ea ∙ answer-opened a e) .0)
+
+  -- ---- the outcome
+
+  waits : (a : Answer) (z : State) → answerNumber a ≢ 0 → afterAnswer a moved z ≡ moved
+  waits Opened z h = absurd (h refl)
+  waits (Wait c u) z h = refl
+  waits Quota z h = refl
+
+  opens : (a : Answer) (z : State) → answerNumber a ≡ 0 → afterAnswer a moved z ≡ z
+  opens a z e = ap (λ x. afterAnswer x moved z) (answer-opened a e)
+
+  -- a request that waits leaves the turned state
+  pub request-waits : (a : Answer) (z : State) → z ≡ moved → a ≡ decide p s at moved bank thread row → answerNumber a ≢ 0
+      → outcome (answered a) z ≡ requested p s at moved bank thread row
+  unfolding requested
+  request-waits a z ez ea h =
+      let state-is : z ≡ afterAnswer a moved (activated s at moved bank thread row) = ez ∙ sym (waits a (activated s at moved bank thread row) h) in
+      λ i. outcome (answered (ea i)) ((state-is ∙ ap (λ x. afterAnswer x moved (activated s at moved bank thread row)) ea) i)
+
+  -- a request that is opened leaves the state after the activation
+  pub request-opens : (a : Answer) (z : State) → z ≡ activated s at moved bank thread row → a ≡ decide p s at moved bank thread row
+      → answerNumber a ≡ 0 → outcome (answered a) z ≡ requested p s at moved bank thread row
+  unfolding requested
+  request-opens a z ez ea h =
+      let state-is : z ≡ afterAnswer a moved (activated s at moved bank thread row) = ez ∙ sym (opens a (activated s at moved bank thread row) h) in
+      λ i. outcome (answered (ea i)) ((state-is ∙ ap (λ x. afterAnswer x moved (activated s at moved bank thread row)) ea) i)
+
+  -- ---- the next state passes the tests
+
+  pub moved-sound : Sound s moved
+  moved-sound = record { long = turned-long s st tick (k .long); ok = taken-memory k }
+
+  pub activated-sound : Sound s (activated s at moved bank thread row)
+  activated-sound =
+      record {
+        long = activated-long s at moved bank thread row (moved-sound .long);
+        ok = activated-memory s at moved bank thread row (moved-sound .long) (moved-sound .ok);
+      }
