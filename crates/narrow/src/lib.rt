@@ -1,4 +1,4 @@
-// The moves of a state with 16-bit filters: its clock, what the decision on a request looks at, and an activation. Each joins what the filters do to
+// The moves of a state with 16-bit filters: set-up, its clock, what the decision on a request looks at, and an activation. Each joins what the filters do to
 // what the crate `state` does to the rest. All on a state that passed the tests.
 use decision::View;
 use rules::Head;
@@ -6,13 +6,36 @@ use rules::Setting;
 ghost use mathlib.Core.Path.{_≡_};
 ghost use Prim.Native.Nat.{_≤_, _<_};
 ghost use lib.ListN.{length, getD};
-ghost use Rattle.rules.specs.State.{countersUsed, threadsUsed, threadCell, state};
+ghost use Rattle.rules.specs.State.{countersUsed, threadsUsed, threadCell, state, freshHead, fresh};
 ghost use Rattle.rules.specs.Clock.{epoch, turnedCounters, turnedThreads, movedHead};
 ghost use Rattle.rules.specs.Filter.{Within, two, blacklisted};
 ghost use Rattle.rules.specs.Policy.{narrow};
 ghost use Rattle.rules.specs.Decision.{activeEstimate, activated};
+ghost use Rattle.rules.specs.Tested.{Long};
 ghost use Rattle.decision.specs.Numbers.{passiveEstimate, viewOf};
 ghost use Rattle.state.specs.Ready.{Bounds, Ready};
+
+// What set-up leaves: the used parts of the buffers cleared, and the head of zeros.
+pub fn fresh(
+    s: Setting,
+    counters: &mut [u16],
+    ticks: &mut [u64],
+    rows: &mut [u32],
+    threads: &mut [u32],
+) -> Head
+    requires { ⌜ Bounds s × Long s (state freshHead (now counters) (now ticks) (now rows) (now threads)) ⌝ }
+    ensures { λ r. ⌜ state r (now (counters .exit)) (now (ticks .exit)) (now (rows .exit)) (now (threads .exit)) ≡ fresh s (state freshHead (now (counters .entry)) (now (ticks .entry)) (now (rows .entry)) (now (threads .entry))) ⌝ }
+{
+    filter::clear(counters, (s.banks * 2048) as usize);
+    history::clear(ticks, rows, setting::history_length(s));
+    quota::clear(threads, (s.banks * s.threads * 3) as usize);
+    Head {
+        last: 0,
+        next: 0,
+        bank: [0; 16],
+        rank: [0; 4],
+    }
+}
 
 // The head with its clock moved, and the epoch of its last tick.
 pub struct Moved {
@@ -55,7 +78,19 @@ pub fn look(
     let b = bank as usize;
     let active = filter::bank_estimate(counters, b, first, second, f) as u64;
     let other = filter::bank_estimate(counters, b, first, second, 1 - f) as u64;
-    state::look::look(s, h, ticks, rows, threads, bank, thread, row, e, active, other)
+    state::look::look(
+        s,
+        h,
+        ticks,
+        rows,
+        threads,
+        bank,
+        thread,
+        row,
+        e,
+        active,
+        other,
+    )
 }
 
 // An activation at the last tick: counts the row in both filters, records it, and gives the head. black says whether the row was blacklisted.

@@ -1,9 +1,11 @@
 -- Every call is moves, refused ones none; so the activations of any list of calls are those of a list of moves.
 use mathlib.Core.Path.{_≡_, refl, sym, ap, _∙_, subst}
+use mathlib.Core.Logic.{_≢_}
 use mathlib.Core.List.{List, [], _∷_, _++_}
 use mathlib.Core.Bool.{Bool, true, false, cond}
 use Prim.Native.Nat.{ℕ}
 use native.Mathlib.Omega.{arith}
+use borrow.Author.Tests.{eq-eqb, ne-eqb}
 use lib.Dec.{T, eqb, eqb→eq}
 use Rattle.rules.specs.declared.Setting.{Setting}
 use Rattle.rules.specs.declared.Answer.{Answer}
@@ -16,7 +18,7 @@ use Rattle.rules.specs.Hash.{places}
 use Rattle.rules.specs.Policy.{Policy}
 use Rattle.rules.specs.Decision.{quotaRule, bankRule, rankRule, rowRule, waitTick, firstFailing, decide, activated}
 use Rattle.rules.specs.Tested.{Long, Taken}
-use Rattle.rules.specs.Calls.{Call, request, done, index, refused, answered, Outcome, unlessRefused, afterAnswer, requested, reported, indexShown, callTick, callBank, callThread, performed, refusalOf, step, replies, after, Activation, activationOf, activations}
+use Rattle.rules.specs.Calls.{Call, request, done, index, refused, answered, Outcome, outcome, unlessRefused, afterAnswer, requested, reported, indexShown, callTick, callBank, callThread, performed, refusalOf, step, replies, after, Activation, activationOf, activations}
 use Rattle.rules.specs.Moves.{Owned, Move, clock, activate, renew, Reseeds, SameParts, AllAllowed, movedBy, madeBy, Moves}
 use Rattle.rules.proofs.Tests.{holds}
 use Rattle.rules.proofs.Accept.{number-none, call-taken}
@@ -47,6 +49,14 @@ by-refusal P r st o f g = go (eqb (refusalNumber r) 0) refl
     go : (q : Bool) → eqb (refusalNumber r) 0 ≡ q → P (cond q o (record { reply = refused r; state = st }))
     go true e = f (number-none r (eqb→eq (refusalNumber r) 0 (holds (eqb (refusalNumber r) 0) e)))
     go false e = g
+
+pub unless-taken : (r : Refusal) (st : State) (o : Outcome) → refusalNumber r ≡ 0 → unlessRefused r st o ≡ o
+unfolding unlessRefused
+unless-taken r st o e = rw (eq-eqb (refusalNumber r) 0 e)
+
+pub unless-refused : (r : Refusal) (st : State) (o : Outcome) → refusalNumber r ≢ 0 → unlessRefused r st o ≡ outcome (refused r) st
+unfolding unlessRefused
+unless-refused r st o h = rw (ne-eqb (refusalNumber r) 0 h)
 
 -- ---- moves one after the other
 

@@ -25,7 +25,6 @@ use borrow.Author.Needs.{needs}
 use Rattle.calls.proofs.request.Statement.{statement}
 use Rattle.calls.proofs.request.Tie as tie
 
-
 -- the state at entry, the row's places, and what the tests that it passed give
 abbrev s : tie.Start → Setting
 s c = c .args .s

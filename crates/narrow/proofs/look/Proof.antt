@@ -12,7 +12,6 @@ use borrow.Author.Needs.{needs}
 use Rattle.narrow.proofs.look.Statement.{statement}
 use Rattle.narrow.proofs.look.Tie as tie
 
-
 abbrev entry : tie.Start → State
 entry c = let a = c .args in state (a .h) (a .counters .now) (a .ticks .now) (a .rows .now) (a .threads .now)
 

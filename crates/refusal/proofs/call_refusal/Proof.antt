@@ -10,7 +10,6 @@ use borrow.Author.Needs.{needs}
 use Rattle.refusal.proofs.call_refusal.Statement.{statement}
 use Rattle.refusal.proofs.call_refusal.Tie as tie
 
-
 -- refusals 1 to 6, and those after them
 abbrev front : tie.After-setup-refusal → Refusal
 front c = let a = c .before .before .before .args in setupTest (a .m) (a .s) (a .seeds .now) (a .counters) (length (a .ticks .now)) (a .rows) (a .threads)

@@ -10,7 +10,6 @@ use borrow.Author.Needs.{needs}
 use Rattle.refusal.proofs.done_refusal.Statement.{statement}
 use Rattle.refusal.proofs.done_refusal.Tie as tie
 
-
 -- refusals 1 to 9, and 10
 abbrev front : tie.After-call-refusal → Refusal
 front c = let a = c .before .before .before .before .args in callTest (a .m) (a .s) (a .seeds .now) (a .h) (a .counters) (a .ticks .now) (a .rows) (length (a .threads .now)) (a .tick) (a .bank) (a .thread)

@@ -10,7 +10,6 @@ use borrow.Author.Needs.{needs}
 use Rattle.refusal.proofs.setup_refusal.Statement.{statement}
 use Rattle.refusal.proofs.setup_refusal.Tie as tie
 
-
 -- the setting is accepted
 ok : (c : tie.Else1) → let a = c .before .before .before .args in Accepted (a .m) (a .s) (a .seeds .now)
 ok c = let a = c .before .before .before .args in accepted (a .m) (a .s) (a .seeds .now) (number-none _ (sym (c .before .refusal .ensures) ∙ c .if1 .left))

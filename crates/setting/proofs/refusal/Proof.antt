@@ -16,7 +16,6 @@ use borrow.Author.Needs.{needs}
 use Rattle.setting.proofs.refusal.Statement.{statement}
 use Rattle.setting.proofs.refusal.Tie as tie
 
-
 -- the arguments, after the test of refusal 1 and where H is known
 abbrev m : tie.Else1 → Limits
 m c = c .before .before .before .before .before .args .m

@@ -10,7 +10,6 @@ use borrow.Author.Needs.{needs}
 use Rattle.state.proofs.turn.Statement.{statement}
 use Rattle.state.proofs.turn.Tie as tie
 
-
 -- the epoch before is small
 small : (c : tie.After-epoch-from) → epoch (c .before .before .before .before .args .s) (c .before .before .before .before .args .h .last) < 2 ^ 63
 small c = let a = c .before .before .before .before .args in epoch-small (a .h .last) (a .s .w / 2) (c .before .before .before .before .pre .0 .epoch) (omega arith)

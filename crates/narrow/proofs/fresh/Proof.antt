@@ -1,0 +1,70 @@
+-- `fresh` clears the used parts, buffer by buffer.
+use mathlib.Core.Path.{_≡_, ap, _∙_}
+use native.Mathlib.Omega.{arith}
+use lib.Dec.{ltb}
+use Rattle.rules.specs.Cells.{clearCells}
+use Rattle.rules.specs.State.{freshHead, fresh}
+use Rattle.rules.proofs.Accept.{cells-small}
+use borrow.Author.Needs.{needs}
+use Rattle.narrow.proofs.fresh.Statement.{statement}
+use Rattle.narrow.proofs.fresh.Tie as tie
+
+mul-clear : tie.Need-mul-clear
+mul-clear c = search needs
+
+clear-requires : tie.Need-clear-requires
+clear-requires c κs = search needs
+
+history-length-requires : tie.Need-history-length-requires
+history-length-requires c κs = search needs
+
+clear-requires-2 : tie.Need-clear-requires-2
+clear-requires-2 c κs =
+    let l = c .before .before .before .before .before .before .before .before .before .before .before .before .pre .1 in
+    rw (c .history-length .ensures) (l .ticks, l .rows)
+
+mul-clear-2 : tie.Need-mul-clear-2
+mul-clear-2 c =
+    let r = c .before .before .before .before .before .before .before .before .before .before .before .before .before .before .before .before .before .before .before .pre .0 .ranges in
+    omega (arith, cells-small (c .before .before .before .before .before .before .before .before .before .before .before .before .before .before .before .before .before .before .before .args .s .banks) (c .before .before .before .before .before .before .before .before .before .before .before .before .before .before .before .before .before .before .before .args .s .threads) (r .banks-high) (r .threads-high))
+
+mul-clear-3 : tie.Need-mul-clear-3
+mul-clear-3 c =
+    let r = c .before .before .before .before .before .before .before .before .before .before .before .before .before .before .before .before .before .before .before .pre .0 .ranges in
+    omega (arith, cells-small (c .before .before .before .before .before .before .before .before .before .before .before .before .before .before .before .before .before .before .before .args .s .banks) (c .before .before .before .before .before .before .before .before .before .before .before .before .before .before .before .before .before .before .before .args .s .threads) (r .banks-high) (r .threads-high))
+
+clear-requires-3 : tie.Need-clear-requires-3
+clear-requires-3 c κs = search needs
+
+same-length : tie.Need-same-length
+same-length c = search needs
+
+same-length-2 : tie.Need-same-length-2
+same-length-2 c = search needs
+
+same-length-3 : tie.Need-same-length-3
+same-length-3 c = search needs
+
+same-length-4 : tie.Need-same-length-4
+same-length-4 c = search needs
+
+returns : tie.Need-returns
+unfolding fresh freshHead
+returns c = rw (c .before .before .before .before .before .before .before .before .before .before .before .before .before .before .before .clear .ensures, c .before .before .before .before .before .before .before .before .before .clear2 .ensures .0, c .before .before .before .before .before .before .before .before .before .clear2 .ensures .1, c .before .before .clear3 .ensures, c .before .before .before .before .before .before .before .before .before .before .history-length .ensures)
+
+pub fresh-spec : {M : Type 1} → statement M
+fresh-spec =
+    tie.close
+    (tie.spec
+    mul-clear
+    clear-requires
+    history-length-requires
+    clear-requires-2
+    mul-clear-2
+    mul-clear-3
+    clear-requires-3
+    same-length
+    same-length-2
+    same-length-3
+    same-length-4
+    returns)

@@ -1,0 +1,72 @@
+-- `request` tests bank, thread and tick, and decides.
+use mathlib.Core.Path.{_≡_, sym, ap, _∙_}
+use Rattle.rules.specs.Answers.{refusalNumber}
+use Rattle.rules.specs.State.{State, state}
+use Rattle.rules.specs.Clock.{turned}
+use Rattle.rules.specs.Hash.{places}
+use Rattle.rules.specs.Policy.{limits01, narrow}
+use Rattle.rules.specs.Calls.{Outcome, callRefusal, requested, step}
+use Rattle.rules.proofs.Accept.{number-none}
+use Rattle.sound.proofs.Tells.{place-only, told-refused, told-taken}
+use borrow.Author.Needs.{needs}
+use Rattle.sound.proofs.request.Statement.{statement}
+use Rattle.sound.proofs.request.Tie as tie
+
+abbrev entry : tie.Start → State
+entry c = let a = c .args in state (a .h) (a .counters .now) (a .ticks .now) (a .rows .now) (a .threads .now)
+
+-- what the rules perform
+abbrev performs : tie.Start → Outcome
+performs c = let a = c .args in requested narrow (a .s) (λ f. places (a .seeds .now) (a .row)) (turned (a .s) (entry c) (a .tick)) (a .bank) (a .thread) (a .row)
+
+code-is : (c : tie.After-place-refusal) → let a = c .before .before .before .before .before .before .args in c .place-refusal .result ≡ refusalNumber (callRefusal limits01 (a .s) (a .seeds .now) (entry (c .before .before .before .before .before .before)) (a .tick) (a .bank) (a .thread))
+code-is c =
+    let a = c .before .before .before .before .before .before .args in
+    c .place-refusal .ensures ∙ ap refusalNumber (sym (place-only limits01 (a .s) (a .seeds .now) (entry (c .before .before .before .before .before .before)) (c .before .before .before .before .before .before .pre .0) (c .before .before .before .before .before .before .pre .1) (a .tick) (a .bank) (a .thread)))
+
+place-refusal-requires : tie.Need-place-refusal-requires
+place-refusal-requires c κs = search needs
+
+returns : tie.Need-returns
+unfolding step
+returns c =
+    let a = c .before .before .before .before .before .before .before .args in
+    told-refused (a .s) (callRefusal limits01 (a .s) (a .seeds .now) (entry (c .before .before .before .before .before .before .before)) (a .tick) (a .bank) (a .thread)) (entry (c .before .before .before .before .before .before .before)) (performs (c .before .before .before .before .before .before .before)) (c .before .place-refusal .result) _
+    (code-is (c .before)) (c .if1 .taken) (c .before .before .before .before .before .before .before .pre .1)
+
+request-requires : tie.Need-request-requires
+request-requires c κs = number-none _ (sym (code-is (c .before .before .before .before .before)) ∙ c .before .before .before .before .if1 .left)
+
+same-length : tie.Need-same-length
+same-length c = search needs
+
+same-length-2 : tie.Need-same-length-2
+same-length-2 c = search needs
+
+same-length-3 : tie.Need-same-length-3
+same-length-3 c = search needs
+
+same-length-4 : tie.Need-same-length-4
+same-length-4 c = search needs
+
+returns-2 : tie.Need-returns-2
+unfolding step
+returns-2 c =
+    let a = c .before .before .before .before .before .before .before .before .before .before .before .before .before .before .before .before .before .before .before .before .before .args in
+    let q = c .before .before .before .before .before .before .before .before .before .request in
+    told-taken (a .s) (callRefusal limits01 (a .s) (a .seeds .now) (entry (c .before .before .before .before .before .before .before .before .before .before .before .before .before .before .before .before .before .before .before .before .before)) (a .tick) (a .bank) (a .thread)) (entry (c .before .before .before .before .before .before .before .before .before .before .before .before .before .before .before .before .before .before .before .before .before)) (performs (c .before .before .before .before .before .before .before .before .before .before .before .before .before .before .before .before .before .before .before .before .before)) (q .result .answer)
+    (state (q .result .head) (q .last .1 .1 .1 .0) (q .last .1 .1 .1 .1 .0) (q .last .1 .1 .1 .1 .1 .0) (q .last .1 .1 .1 .1 .1 .1 .0))
+    (sym (code-is (c .before .before .before .before .before .before .before .before .before .before .before .before .before .before .before)) ∙ c .before .before .before .before .before .before .before .before .before .before .before .before .before .before .if1 .left) (q .ensures .0) (q .ensures .1)
+
+pub request-spec : {M : Type 1} → statement M
+request-spec =
+    tie.close
+    (tie.spec
+    place-refusal-requires
+    returns
+    request-requires
+    same-length
+    same-length-2
+    same-length-3
+    same-length-4
+    returns-2)
