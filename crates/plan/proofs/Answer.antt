@@ -2,12 +2,13 @@
 use mathlib.Core.Path.{_≡_, refl, sym, ap, _∙_}
 use mathlib.Core.Logic.{_≢_}
 use mathlib.Core.Bool.{Bool, true, false, cond}
-use Prim.Native.Nat.{ℕ, _-_, _*_, _^_, _≤_, _<_}
+use Prim.Native.Nat.{ℕ, _*_, _^_, _≤_, _<_}
 use native.Mathlib.Omega.{arith}
 use native.Mathlib.Nat.{le-refl}
 use lib.Dec.{leb, ltb, eqb}
 use borrow.Author.Tests.{ltb-true, ltb-false, leb-true, leb-false, eqb-true, eqb-false}
 use Rattle.rules.specs.declared.Setting.{Setting}
+use Rattle.rules.specs.declared.Limits.{Limits}
 use Rattle.rules.specs.Answers.{none, outOfRange, shortWindow, refusalNumber}
 use Rattle.rules.specs.Setting.{rowBound}
 use Rattle.plan.specs.declared.Plan.the-variants.{Between, Nothing}
@@ -24,38 +25,38 @@ by-test P true x y f g = f refl
 by-test P false x y f g = g refl
 
 -- where no delay in range is accepted, none is
-none-at-all : (s : Setting) → ((td : ℕ) → InRange td → delayRefusal s td ≢ none) → (td : ℕ) → delayRefusal s td ≢ none
-none-at-all s f td e = f td (inside s td e .in-range) e
+none-at-all : (m : Limits) (s : Setting) → ((td : ℕ) → InRange td → delayRefusal m s td ≢ none) → (td : ℕ) → delayRefusal m s td ≢ none
+none-at-all m s f td e = f td (inside m s td e .in-range) e
 
 -- where every delay in range gets one refusal
-every : (s : Setting) (number : ℕ) → Reason s number → ((td : ℕ) → InRange td → delayRefusal s td ≢ none) → Says s (Nothing number)
-every s number r f = (none-at-all s f, r)
+every : (m : Limits) (s : Setting) (number : ℕ) → Reason m s number → ((td : ℕ) → InRange td → delayRefusal m s td ≢ none) → Says m s (Nothing number)
+every m s number r f = (none-at-all m s f, r)
 
 -- ---- an interval
 
-ends : (s : Setting) → Other s → 2 * s .n < s .l → leastDelay s ≤ greatestDelay s → Ends s (leastDelay s) (greatestDelay s)
-ends s o free h =
+ends : (m : Limits) (s : Setting) → Other m s → 2 * s .n < s .l → leastDelay s ≤ greatestDelay m s → Ends m s (leastDelay s) (greatestDelay m s)
+ends m s o free h =
     record {
       ordered = h;
-      least-accepted = accept-between s (leastDelay s) o free (le-refl (leastDelay s)) h;
-      greatest-accepted = accept-between s (greatestDelay s) o free h (le-refl (greatestDelay s));
-      between = λ td low high. accept-between s td o free low high;
-      below = λ td k e. let i = inside s td e .low in omega arith;
-      above = λ td k e. let i = inside s td e .high in omega arith;
+      least-accepted = accept-between m s (leastDelay s) o free (le-refl (leastDelay s)) h;
+      greatest-accepted = accept-between m s (greatestDelay m s) o free h (le-refl (greatestDelay m s));
+      between = λ td low high. accept-between m s td o free low high;
+      below = λ td k e. let i = inside m s td e .low in omega arith;
+      above = λ td k e. let i = inside m s td e .high in omega arith;
     }
 
 -- ---- none
 
-empty : (s : Setting) → greatestDelay s < leastDelay s → (td : ℕ) → delayRefusal s td ≢ none
-empty s h td e =
-    let i = inside s td e in
+empty : (m : Limits) (s : Setting) → greatestDelay m s < leastDelay s → (td : ℕ) → delayRefusal m s td ≢ none
+empty m s h td e =
+    let i = inside m s td e in
     let l = i .low in
     let g = i .high in
     omega arith
 
 -- no delay in range has B ≤ L
-no-bound : (s : Setting) → Other s → ((td : ℕ) → InRange td → s .l < rowBound (withDelay s td)) → Reason s 5
-no-bound s o f = noDelay refl (λ td h. let k = neither s o td h in (f td h, k .0, k .1))
+no-bound : (m : Limits) (s : Setting) → Other m s → ((td : ℕ) → InRange td → s .l < rowBound (withDelay s td)) → Reason m s 5
+no-bound m s o f = noDelay refl (λ td h. let k = neither m s o td h in (f td h, k .0, k .1))
 
 smallest : (s : Setting) → 2 * s .n < s .l → plan.smallestDelay s ≤ 2 ^ 29 → Smallest s (plan.smallestDelay s)
 smallest s free h =
@@ -65,40 +66,40 @@ smallest s free h =
       first = λ td h1 k. unbounded s td h1 free k;
     }
 
-above : (s : Setting) → Other s → 2 * s .n < s .l → Says s (delaysAbove s)
+above : (m : Limits) (s : Setting) → Other m s → 2 * s .n < s .l → Says m s (delaysAbove m s)
 unfolding delaysAbove
-above s o free =
-    by-test (Says s) (leb (leastDelay s) (greatestDelay s)) (Between (leastDelay s) (greatestDelay s)) _
-    (λ e. ends s o free (leb-true (leastDelay s) (greatestDelay s) e))
+above m s o free =
+    by-test (Says m s) (leb (leastDelay s) (greatestDelay m s)) (Between (leastDelay s) (greatestDelay m s)) _
+    (λ e. ends m s o free (leb-true (leastDelay s) (greatestDelay m s) e))
     (λ e.
-    let nothing = empty s (leb-false (leastDelay s) (greatestDelay s) e) in
-    by-test (Says s) (ltb (2 ^ 29) (plan.smallestDelay s)) (Nothing 5) _
+    let nothing = empty m s (leb-false (leastDelay s) (greatestDelay m s) e) in
+    by-test (Says m s) (ltb (2 ^ 29) (plan.smallestDelay s)) (Nothing 5) _
     (λ k.
     let far = ltb-true (2 ^ 29) (plan.smallestDelay s) k in
-    (nothing, no-bound s o (λ td h. unbounded s td (h .0) free (omega arith))))
+    (nothing, no-bound m s o (λ td h. unbounded s td (h .0) free (omega arith))))
     (λ k. (nothing, smallestDelay (plan.smallestDelay s) (smallest s free (ltb-false (2 ^ 29) (plan.smallestDelay s) k)) refl)))
 
 pub right : Right
 unfolding delaysOf
-right s =
-    let first = refusalNumber (delayRefusal s 1) in
-    by-test (Says s) (eqb first 1) (Nothing 1) _
+right m s =
+    let first = refusalNumber (delayRefusal m s 1) in
+    by-test (Says m s) (eqb first 1) (Nothing 1) _
     (λ e.
-    let all = every-one s (eqb-true first 1 e) in
-    every s 1 (everyDelay outOfRange refl all) (λ td h z. let k = ap refusalNumber (sym (all td h) ∙ z) in omega arith))
+    let all = every-one m s (eqb-true first 1 e) in
+    every m s 1 (everyDelay outOfRange refl all) (λ td h z. let k = ap refusalNumber (sym (all td h) ∙ z) in omega arith))
     (λ e1.
-    by-test (Says s) (eqb first 2) (Nothing 2) _
+    by-test (Says m s) (eqb first 2) (Nothing 2) _
     (λ e.
-    let all = every-two s (eqb-true first 2 e) in
-    every s 2 (everyDelay shortWindow refl all) (λ td h z. let k = ap refusalNumber (sym (all td h) ∙ z) in omega arith))
+    let all = every-two m s (eqb-true first 2 e) in
+    every m s 2 (everyDelay shortWindow refl all) (λ td h z. let k = ap refusalNumber (sym (all td h) ∙ z) in omega arith))
     (λ e2.
-    let o = other-number s (eqb-false first 1 e1) (eqb-false first 2 e2) in
-    by-test (Says s) (leb (s .l) (2 * s .n)) (Nothing 5) _
+    let o = other-number m s (eqb-false first 1 e1) (eqb-false first 2 e2) in
+    by-test (Says m s) (leb (s .l) (2 * s .n)) (Nothing 5) _
     (λ e.
     let low = leb-true (s .l) (2 * s .n) e in
-    ((λ td z. let a = accepted-delay s td z .bound in let b = never-bounded s td low in omega arith), no-bound s o (λ td h. never-bounded s td low)))
-    (λ e. above s o (leb-false (s .l) (2 * s .n) e))))
+    ((λ td z. let a = accepted-delay m s td z .bound in let b = never-bounded s td low in omega arith), no-bound m s o (λ td h. never-bounded s td low)))
+    (λ e. above m s o (leb-false (s .l) (2 * s .n) e))))
 
 pub delay-plays-no-part : DelayPlaysNoPart
 unfolding delaysOf delaysAbove leastDelay greatestDelay plan.smallestDelay delayRefusal
-delay-plays-no-part s td = refl
+delay-plays-no-part m s td = refl

@@ -1,11 +1,11 @@
 -- The accepted delays are those from the least to the greatest, in the closed form.
 use mathlib.Core.Path.{_∙_}
-use Prim.Native.Nat.{ℕ, _-_, _*_, _^_, _≤_, _<_}
+use Prim.Native.Nat.{ℕ, _-_, _*_, _/_, _^_, _≤_, _<_}
 use native.Mathlib.Omega.{arith}
 use native.Mathlib.Nat.{le-trans, le-max-left, le-max-right, max-le, min-le-left, min-le-right, le-min}
 use Rattle.rules.specs.declared.Setting.{Setting}
+use Rattle.rules.specs.declared.Limits.{Limits}
 use Rattle.rules.specs.Setting.{epochLength, historyLength, rowBound}
-use Rattle.rules.specs.Policy.{limits01}
 use Rattle.rules.proofs.Accept.{accepted}
 use Rattle.rules.specs.Tested.{Accepted}
 use Rattle.plan.specs.Delays.{withDelay, someSeeds, delayRefusal, AcceptedDelay, InRange, Bounded}
@@ -43,50 +43,50 @@ bound-smallest s td h1 h =
 
 -- ---- the greatest delay
 
-pub history-ok : (s : Setting) (td : ℕ) → 1 ≤ s .tfaw → td ≤ 1024 * s .tfaw → historyLength (withDelay s td) ≤ 4096
+pub history-ok : (m : Limits) (s : Setting) (td : ℕ) → 1 ≤ s .tfaw → td ≤ m .history / 4 * s .tfaw → historyLength (withDelay s td) ≤ m .history
 unfolding historyLength
-history-ok s td h k = history-short td (s .tfaw) h k
+history-ok m s td h k = history-short td (s .tfaw) (m .history) h k
 
-history-most : (s : Setting) (td : ℕ) → 1 ≤ s .tfaw → historyLength (withDelay s td) ≤ 4096 → td ≤ 1024 * s .tfaw
+history-most : (m : Limits) (s : Setting) (td : ℕ) → 1 ≤ s .tfaw → historyLength (withDelay s td) ≤ m .history → td ≤ m .history / 4 * s .tfaw
 unfolding historyLength
-history-most s td h k = history-limit td (s .tfaw) h k
+history-most m s td h k = history-limit td (s .tfaw) (m .history) h k
 
 -- ---- both directions
 
-pub accepted-delay : (s : Setting) (td : ℕ) → AcceptedDelay s td → Accepted limits01 (withDelay s td) someSeeds
+pub accepted-delay : (m : Limits) (s : Setting) (td : ℕ) → AcceptedDelay m s td → Accepted m (withDelay s td) someSeeds
 unfolding delayRefusal
-accepted-delay s td e = accepted limits01 (withDelay s td) someSeeds e
+accepted-delay m s td e = accepted m (withDelay s td) someSeeds e
 
 -- what an accepted delay shows
-pub record Inside (s : Setting) (td : ℕ) : Type 0 where
+pub record Inside (m : Limits) (s : Setting) (td : ℕ) : Type 0 where
   pub in-range : InRange td
   pub free : 2 * s .n < s .l
   pub low : leastDelay s ≤ td
-  pub high : td ≤ greatestDelay s
+  pub high : td ≤ greatestDelay m s
 
-pub inside : (s : Setting) (td : ℕ) → AcceptedDelay s td → Inside s td
+pub inside : (m : Limits) (s : Setting) (td : ℕ) → AcceptedDelay m s td → Inside m s td
 unfolding leastDelay greatestDelay
-inside s td e =
-    let a = accepted-delay s td e in
+inside m s td e =
+    let a = accepted-delay m s td e in
     let r = a .ranges in
     record {
       in-range = (r .td-low, r .td-high);
       free = bound-free s td (a .bound);
       low = max-le (a .gaps) (bound-smallest s td (r .td-low) (a .bound));
-      high = le-min (a .delay) (history-most s td (r .tfaw-low) (a .short));
+      high = le-min (a .delay) (history-most m s td (r .tfaw-low) (a .short));
     }
 
 -- an epoch is at most 2^29 ticks
 greatest-high : (s : Setting) (td : ℕ) → s .w ≤ 2 ^ 30 → td ≤ epochLength s → td ≤ 2 ^ 29
 greatest-high s td h k = omega arith
 
-pub accept-between : (s : Setting) (td : ℕ) → Other s → 2 * s .n < s .l → leastDelay s ≤ td → td ≤ greatestDelay s → AcceptedDelay s td
+pub accept-between : (m : Limits) (s : Setting) (td : ℕ) → Other m s → 2 * s .n < s .l → leastDelay s ≤ td → td ≤ greatestDelay m s → AcceptedDelay m s td
 unfolding delayRefusal leastDelay greatestDelay
-accept-between s td o free low high =
-    let r = other-ranges s o in
+accept-between m s td o free low high =
+    let r = other-ranges m s o in
     let gaps : s .trc ≤ td = le-trans (le-max-left (s .trc) (smallestDelay s)) low in
     let small : smallestDelay s ≤ td = le-trans (le-max-right (s .trc) (smallestDelay s)) low in
-    let epoch : td ≤ epochLength s = le-trans high (min-le-left (epochLength s) (1024 * s .tfaw)) in
-    let places : td ≤ 1024 * s .tfaw = le-trans high (min-le-right (epochLength s) (1024 * s .tfaw)) in
+    let epoch : td ≤ epochLength s = le-trans high (min-le-left (epochLength s) (m .history / 4 * s .tfaw)) in
+    let places : td ≤ m .history / 4 * s .tfaw = le-trans high (min-le-right (epochLength s) (m .history / 4 * s .tfaw)) in
     let in-range : InRange td = (le-trans (r .trc-low) gaps, greatest-high s td (r .w-high) epoch) in
-    accept (withDelay s td) (any-delay s td in-range ∙ o .fields) (other-room s o) gaps epoch (history-ok s td (r .tfaw-low) places) (bounded s td free small)
+    accept m (withDelay s td) (any-delay m s td in-range ∙ o .fields) (other-room m s o) gaps epoch (history-ok m s td (r .tfaw-low) places) (bounded s td free small)

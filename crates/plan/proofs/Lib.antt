@@ -1,4 +1,5 @@
 pub mod Numbers
+pub mod Served
 pub mod Shape
 pub mod Interval
 pub mod Answer

@@ -1,4 +1,4 @@
--- Arithmetic of delays, over plain numbers: when B ≤ L, when H ≤ 4,096, and how B and the least delay change with N.
+-- Arithmetic of delays, over plain numbers: when B ≤ L, when H is within its limit, and how B and the least delay change with N.
 use mathlib.Core.Path.{_≡_, refl, sym, subst}
 use mathlib.Core.Bool.{Bool, true, false}
 use Prim.Native.Nat.{ℕ, _+_, _-_, _*_, _/_, _≤_, _<_}
@@ -31,16 +31,21 @@ bound-least free l rest td ht h = go (ltb (rest / (l - free)) td) refl
         let m : l < free + 1 + rest / td = bound-missed free l rest td ht (omega arith) (ltb-false (rest / (l - free)) td e) in
         absurd (omega arith)
 
--- ---- H ≤ 4,096
+-- ---- H within its limit
 
-pub history-short : (td tfaw : ℕ) → 1 ≤ tfaw → td ≤ 1024 * tfaw → 4 * ceilDiv td tfaw ≤ 4096
-history-short td tfaw hf h =
-    let p : ceilDiv td tfaw < 1025 = div-lt-iff-lt-mul {k = tfaw} {x = td + (tfaw - 1)} {y = 1025} hf .1 (omega arith) in
+one-more : (q tfaw : ℕ) → (q + 1) * tfaw ≡ q * tfaw + tfaw
+one-more q tfaw = rw (add-mul q 1 tfaw, one-mul tfaw)
+
+pub history-short : (td tfaw limit : ℕ) → 1 ≤ tfaw → td ≤ limit / 4 * tfaw → 4 * ceilDiv td tfaw ≤ limit
+history-short td tfaw limit hf h =
+    let e = one-more (limit / 4) tfaw in
+    let p : ceilDiv td tfaw < limit / 4 + 1 = div-lt-iff-lt-mul {k = tfaw} {x = td + (tfaw - 1)} {y = limit / 4 + 1} hf .1 (omega arith) in
     omega arith
 
-pub history-limit : (td tfaw : ℕ) → 1 ≤ tfaw → 4 * ceilDiv td tfaw ≤ 4096 → td ≤ 1024 * tfaw
-history-limit td tfaw hf h =
-    let p : td + (tfaw - 1) < 1025 * tfaw = div-lt-iff-lt-mul {k = tfaw} {x = td + (tfaw - 1)} {y = 1025} hf .0 (omega arith) in
+pub history-limit : (td tfaw limit : ℕ) → 1 ≤ tfaw → 4 * ceilDiv td tfaw ≤ limit → td ≤ limit / 4 * tfaw
+history-limit td tfaw limit hf h =
+    let e = one-more (limit / 4) tfaw in
+    let p : td + (tfaw - 1) < (limit / 4 + 1) * tfaw = div-lt-iff-lt-mul {k = tfaw} {x = td + (tfaw - 1)} {y = limit / 4 + 1} hf .0 (omega arith) in
     omega arith
 
 -- ---- B grows with N, where tRC ≤ tD

@@ -2,12 +2,13 @@
 use mathlib.Core.Path.{_≡_, refl, sym, ap, _∙_}
 use mathlib.Core.Logic.{_≢_}
 use mathlib.Core.Bool.{Bool, true, false, _||_}
-use Prim.Native.Nat.{ℕ, _-_, _*_, _≤_, _<_}
+use Prim.Native.Nat.{ℕ, _*_, _/_, _≤_, _<_}
 use native.Mathlib.Omega.{arith}
-use native.Mathlib.Nat.{le-refl}
+use native.Mathlib.Nat.{le-refl, mul-le-mul}
 use lib.Dec.{ltb}
 use borrow.Author.Tests.{ltb-true, ltb-false, le-ltb, lt-ltb}
 use Rattle.rules.specs.declared.Setting.{Setting}
+use Rattle.rules.specs.declared.Limits.{Limits}
 use Rattle.rules.specs.Answers.{Refusal, outOfRange, shortWindow, aboveLimit, refusalNumber}
 use Rattle.rules.specs.Setting.{epochLength, historyLength, rowBound}
 use Rattle.plan.specs.declared.Plan.the-variants.{Between, Nothing}
@@ -29,8 +30,8 @@ neither-below a b f g = go (ltb a b) (ltb b a) refl refl
         let q = ltb-false b a k in
         omega arith
 
-same-ends : (s : Setting) (a b c d : ℕ) → Ends s a b → Ends s c d → Between a b ≡ Between c d
-same-ends s a b c d x y =
+same-ends : (m : Limits) (s : Setting) (a b c d : ℕ) → Ends m s a b → Ends m s c d → Between a b ≡ Between c d
+same-ends m s a b c d x y =
     let p : a ≡ c = neither-below a c (λ h. y .below a h (x .least-accepted)) (λ h. x .below c h (y .least-accepted)) in
     let q : b ≡ d = neither-below b d (λ h. x .above d h (y .greatest-accepted)) (λ h. y .above b h (x .greatest-accepted)) in
     cc
@@ -43,32 +44,32 @@ late-both true true e = absurd (omega (arith, ap refusalNumber e))
 late-both true false e = absurd (omega (arith, ap refusalNumber e))
 late-both false b e = refl
 
-late-trc : (s : Setting) → Other s → s .l < rowBound (withDelay s (s .trc)) → lateOf s (s .trc) ≡ late false (ltb 4096 (historyLength (withDelay s (s .trc)))) true
-late-trc s o h =
-    let r = other-ranges s o in
-    let epoch : s .trc ≤ epochLength s = epoch-holds (s .n) (s .trc) (s .w) (r .n-low) (other-room s o) in
+late-trc : (m : Limits) (s : Setting) → Other m s → s .l < rowBound (withDelay s (s .trc)) → lateOf m s (s .trc) ≡ late false (ltb (m .history) (historyLength (withDelay s (s .trc)))) true
+late-trc m s o h =
+    let r = other-ranges m s o in
+    let epoch : s .trc ≤ epochLength s = epoch-holds (s .n) (s .trc) (s .w) (r .n-low) (other-room m s o) in
     simp (le-ltb (s .trc) (s .trc) (le-refl (s .trc)), le-ltb (epochLength s) (s .trc) epoch, lt-ltb (s .l) (rowBound (withDelay s (s .trc))) h)
 
-late-one : (s : Setting) → Other s → s .l < rowBound (withDelay s 1) → lateOf s 1 ≡ late (ltb 1 (s .trc) || ltb (epochLength s) 1) false true
-late-one s o h =
-    let r = other-ranges s o in
-    let places : 1 ≤ 1024 * s .tfaw = let k = r .tfaw-low in omega arith in
-    simp (le-ltb 4096 (historyLength (withDelay s 1)) (history-ok s 1 (r .tfaw-low) places), lt-ltb (s .l) (rowBound (withDelay s 1)) h)
+late-one : (m : Limits) (s : Setting) → 4 ≤ m .history → Other m s → s .l < rowBound (withDelay s 1) → lateOf m s 1 ≡ late (ltb 1 (s .trc) || ltb (epochLength s) 1) false true
+late-one m s wide o h =
+    let r = other-ranges m s o in
+    let places : 1 ≤ m .history / 4 * s .tfaw = mul-le-mul {n₁ = 1} {m₁ = 1} (omega arith) (r .tfaw-low) in
+    simp (le-ltb (m .history) (historyLength (withDelay s 1)) (history-ok m s 1 (r .tfaw-low) places), lt-ltb (s .l) (rowBound (withDelay s 1)) h)
 
-every-five : (s : Setting) (r : Refusal) → ((td : ℕ) → InRange td → delayRefusal s td ≡ r)
-    → ((td : ℕ) → InRange td → (s .l < rowBound (withDelay s td)) × (delayRefusal s td ≢ outOfRange) × (delayRefusal s td ≢ shortWindow))
+every-five : (m : Limits) (s : Setting) (r : Refusal) → 4 ≤ m .history → ((td : ℕ) → InRange td → delayRefusal m s td ≡ r)
+    → ((td : ℕ) → InRange td → (s .l < rowBound (withDelay s td)) × (delayRefusal m s td ≢ outOfRange) × (delayRefusal m s td ≢ shortWindow))
     → r ≡ aboveLimit
-every-five s r f g =
-    let o = other s (g 1 one .1) (g 1 one .2) in
-    let k = other-ranges s o in
+every-five m s r wide f g =
+    let o = other m s (g 1 one .1) (g 1 one .2) in
+    let k = other-ranges m s o in
     let trc : InRange (s .trc) = (k .trc-low, let h = k .trc-high in omega arith) in
-    let x = sym (f (s .trc) trc) ∙ other-shape s o (s .trc) trc ∙ late-trc s o (g (s .trc) trc .0) in
-    let y = sym (f 1 one) ∙ other-shape s o 1 one ∙ late-one s o (g 1 one .0) in
-    y ∙ late-both (ltb 1 (s .trc) || ltb (epochLength s) 1) (ltb 4096 (historyLength (withDelay s (s .trc)))) (sym x ∙ y)
+    let x = sym (f (s .trc) trc) ∙ other-shape m s o (s .trc) trc ∙ late-trc m s o (g (s .trc) trc .0) in
+    let y = sym (f 1 one) ∙ other-shape m s o 1 one ∙ late-one m s wide o (g 1 one .0) in
+    y ∙ late-both (ltb 1 (s .trc) || ltb (epochLength s) 1) (ltb (m .history) (historyLength (withDelay s (s .trc)))) (sym x ∙ y)
 
 -- a smallest delay, where there is none
-no-smallest : (s : Setting) (d : ℕ) → Smallest s d → ((td : ℕ) → InRange td → (s .l < rowBound (withDelay s td)) × (delayRefusal s td ≢ outOfRange) × (delayRefusal s td ≢ shortWindow)) → ⊥
-no-smallest s d x g =
+no-smallest : (m : Limits) (s : Setting) (d : ℕ) → Smallest s d → ((td : ℕ) → InRange td → (s .l < rowBound (withDelay s td)) × (delayRefusal m s td ≢ outOfRange) × (delayRefusal m s td ≢ shortWindow)) → ⊥
+no-smallest m s d x g =
     let a = x .bounded in
     let b = g d (x .in-range) .0 in
     omega arith
@@ -82,19 +83,19 @@ same-smallest s c d x y = neither-below c d (less s c d x y) (less s d c y x)
         let b = y .first c (x .in-range .0) h in
         omega arith
 
-same-reason : (s : Setting) (m n : ℕ) → Reason s m → Reason s n → m ≡ n
-same-reason s m n (everyDelay r e f) (everyDelay q k g) = e ∙ ap refusalNumber (sym (f 1 one) ∙ g 1 one) ∙ sym k
-same-reason s m n (everyDelay r e f) (smallestDelay d x k) = e ∙ ap refusalNumber (sym (f d (x .in-range))) ∙ sym k
-same-reason s m n (everyDelay r e f) (noDelay k g) = e ∙ ap refusalNumber (every-five s r f g) ∙ sym k
-same-reason s m n (smallestDelay d x k) (everyDelay r e f) = k ∙ ap refusalNumber (f d (x .in-range)) ∙ sym e
-same-reason s m n (smallestDelay c x k) (smallestDelay d y e) = k ∙ ap (λ (z : ℕ). refusalNumber (delayRefusal s z)) (same-smallest s c d x y) ∙ sym e
-same-reason s m n (smallestDelay d x k) (noDelay e g) = absurd (no-smallest s d x g)
-same-reason s m n (noDelay k g) (everyDelay r e f) = k ∙ ap refusalNumber (sym (every-five s r f g)) ∙ sym e
-same-reason s m n (noDelay k g) (smallestDelay d x e) = absurd (no-smallest s d x g)
-same-reason s m n (noDelay k g) (noDelay e h) = k ∙ sym e
+same-reason : (m : Limits) (s : Setting) (i j : ℕ) → 4 ≤ m .history → Reason m s i → Reason m s j → i ≡ j
+same-reason m s i j wide (everyDelay r e f) (everyDelay q k g) = e ∙ ap refusalNumber (sym (f 1 one) ∙ g 1 one) ∙ sym k
+same-reason m s i j wide (everyDelay r e f) (smallestDelay d x k) = e ∙ ap refusalNumber (sym (f d (x .in-range))) ∙ sym k
+same-reason m s i j wide (everyDelay r e f) (noDelay k g) = e ∙ ap refusalNumber (every-five m s r wide f g) ∙ sym k
+same-reason m s i j wide (smallestDelay d x k) (everyDelay r e f) = k ∙ ap refusalNumber (f d (x .in-range)) ∙ sym e
+same-reason m s i j wide (smallestDelay c x k) (smallestDelay d y e) = k ∙ ap (λ (z : ℕ). refusalNumber (delayRefusal m s z)) (same-smallest s c d x y) ∙ sym e
+same-reason m s i j wide (smallestDelay d x k) (noDelay e g) = absurd (no-smallest m s d x g)
+same-reason m s i j wide (noDelay k g) (everyDelay r e f) = k ∙ ap refusalNumber (sym (every-five m s r wide f g)) ∙ sym e
+same-reason m s i j wide (noDelay k g) (smallestDelay d x e) = absurd (no-smallest m s d x g)
+same-reason m s i j wide (noDelay k g) (noDelay e h) = k ∙ sym e
 
 pub only-one : OnlyOne
-only-one s (Between a b) (Between c d) x y = same-ends s a b c d x y
-only-one s (Between a b) (Nothing n) x y = absurd (y .0 a (x .least-accepted))
-only-one s (Nothing m) (Between c d) x y = absurd (x .0 c (y .least-accepted))
-only-one s (Nothing m) (Nothing n) x y = ap Nothing (same-reason s m n (x .1) (y .1))
+only-one m s (Between a b) (Between c d) wide x y = same-ends m s a b c d x y
+only-one m s (Between a b) (Nothing j) wide x y = absurd (y .0 a (x .least-accepted))
+only-one m s (Nothing i) (Between c d) wide x y = absurd (x .0 c (y .least-accepted))
+only-one m s (Nothing i) (Nothing j) wide x y = ap Nothing (same-reason m s i j wide (x .1) (y .1))

@@ -1,12 +1,12 @@
 -- The cases about delays, by computation.
 use mathlib.Core.Path.{refl}
-use Rattle.rules.specs.Setting.{historyLength, rowBound, fieldsInRange, seedsInRange, settingRefusal}
+use Rattle.rules.specs.Setting.{settingOf, historyLength, rowBound, fieldsInRange, seedsInRange, settingRefusal}
 use Rattle.plan.specs.Delays.{delayRefusal}
 use Rattle.plan.specs.Plan.{smallestDelay, leastDelay, greatestDelay, delaysAbove, delaysOf}
 use Rattle.plan.specs.Samples.{Cases}
 
 pub cases : Cases
-unfolding historyLength rowBound fieldsInRange seedsInRange settingRefusal delayRefusal smallestDelay leastDelay greatestDelay delaysAbove delaysOf
+unfolding settingOf historyLength rowBound fieldsInRange seedsInRange settingRefusal delayRefusal smallestDelay leastDelay greatestDelay delaysAbove delaysOf
 cases =
     record {
       table-one = refl;

@@ -7,9 +7,9 @@ use native.Mathlib.Omega.{arith}
 use lib.Dec.{ltb}
 use borrow.Author.Tests.{le-leb, le-ltb, ltb-false}
 use Rattle.rules.specs.declared.Setting.{Setting}
+use Rattle.rules.specs.declared.Limits.{Limits}
 use Rattle.rules.specs.Answers.{Refusal, none, outOfRange, shortWindow, badDelay, longHistory, aboveLimit, refusalNumber, refuse}
 use Rattle.rules.specs.Setting.{epochLength, historyLength, rowBound, fieldsInRange, seedsInRange, settingRefusal}
-use Rattle.rules.specs.Policy.{limits01}
 use Rattle.rules.proofs.Tests.{is-true, and-l, not-not}
 use Rattle.rules.proofs.Accept.{ranges, refuse-none}
 use Rattle.rules.specs.Tested.{Ranges}
@@ -19,8 +19,8 @@ use Rattle.plan.specs.Claims.{SeedsPlayNoPart}
 -- ---- the parts of the refusal
 
 -- the fields other than the delay are in range
-abbrev pub others : Setting → Bool
-others s = fieldsInRange limits01 (withDelay s 1)
+abbrev pub others : Limits → Setting → Bool
+others m s = fieldsInRange m (withDelay s 1)
 
 -- refusal 2: two bursts do not fit in the window
 abbrev pub crowded : Setting → Bool
@@ -30,29 +30,29 @@ crowded s = ltb (s .w - 1) (2 * s .n * s .trc)
 abbrev pub late : Bool → Bool → Bool → Refusal
 late a b c = refuse a badDelay (refuse b longHistory (refuse c aboveLimit none))
 
-abbrev pub lateOf : Setting → ℕ → Refusal
-lateOf s td =
-    late (ltb td (s .trc) || ltb (epochLength s) td) (ltb 4096 (historyLength (withDelay s td))) (ltb (s .l) (rowBound (withDelay s td)))
+abbrev pub lateOf : Limits → Setting → ℕ → Refusal
+lateOf m s td =
+    late (ltb td (s .trc) || ltb (epochLength s) td) (ltb (m .history) (historyLength (withDelay s td))) (ltb (s .l) (rowBound (withDelay s td)))
 
 seeds-ok : seedsInRange someSeeds ≡ true
 unfolding seedsInRange
 seeds-ok = refl
 
-pub any-delay : (s : Setting) (td : ℕ) → InRange td → fieldsInRange limits01 (withDelay s td) ≡ others s
+pub any-delay : (m : Limits) (s : Setting) (td : ℕ) → InRange td → fieldsInRange m (withDelay s td) ≡ others m s
 unfolding fieldsInRange
-any-delay s td h = simp (le-leb 1 td (h .0), le-leb td 536870912 (h .1))
+any-delay m s td h = simp (le-leb 1 td (h .0), le-leb td 536870912 (h .1))
 
-pub any-threshold : (s : Setting) (n m td : ℕ) → 1 ≤ n → n ≤ m → m ≤ 32768
-    → fieldsInRange limits01 (withDelay (withThreshold s n) td) ≡ fieldsInRange limits01 (withDelay (withThreshold s m) td)
+pub any-threshold : (m : Limits) (s : Setting) (n more td : ℕ) → 1 ≤ n → n ≤ more → more ≤ m .threshold
+    → fieldsInRange m (withDelay (withThreshold s n) td) ≡ fieldsInRange m (withDelay (withThreshold s more) td)
 unfolding fieldsInRange
-any-threshold s n m td h k j =
-    let one : 1 ≤ m = omega arith in
-    let top : n ≤ 32768 = omega arith in
-    simp (le-leb 1 n h, le-leb n 32768 top, le-leb 1 m one, le-leb m 32768 j)
+any-threshold m s n more td h k j =
+    let one : 1 ≤ more = omega arith in
+    let top : n ≤ m .threshold = omega arith in
+    simp (le-leb 1 n h, le-leb n (m .threshold) top, le-leb 1 more one, le-leb more (m .threshold) j)
 
-pub shape : (s : Setting) (td : ℕ) → InRange td → delayRefusal s td ≡ refuse (not (others s)) outOfRange (refuse (crowded s) shortWindow (lateOf s td))
+pub shape : (m : Limits) (s : Setting) (td : ℕ) → InRange td → delayRefusal m s td ≡ refuse (not (others m s)) outOfRange (refuse (crowded s) shortWindow (lateOf m s td))
 unfolding delayRefusal settingRefusal
-shape s td h = simp (any-delay s td h, seeds-ok, and-true (others s))
+shape m s td h = simp (any-delay m s td h, seeds-ok, and-true (others m s))
   where
     and-true : (b : Bool) → (b && true) ≡ b
     and-true true = refl
@@ -66,8 +66,8 @@ late-number false true c = (λ e. omega arith, λ e. omega arith)
 late-number false false true = (λ e. omega arith, λ e. omega arith)
 late-number false false false = (λ e. omega arith, λ e. omega arith)
 
-pub late-of : (s : Setting) (td : ℕ) → (refusalNumber (lateOf s td) ≡ 1 → ⊥) × (refusalNumber (lateOf s td) ≡ 2 → ⊥)
-late-of s td = late-number (ltb td (s .trc) || ltb (epochLength s) td) (ltb 4096 (historyLength (withDelay s td))) (ltb (s .l) (rowBound (withDelay s td)))
+pub late-of : (m : Limits) (s : Setting) (td : ℕ) → (refusalNumber (lateOf m s td) ≡ 1 → ⊥) × (refusalNumber (lateOf m s td) ≡ 2 → ⊥)
+late-of m s td = late-number (ltb td (s .trc) || ltb (epochLength s) td) (ltb (m .history) (historyLength (withDelay s td))) (ltb (s .l) (rowBound (withDelay s td)))
 
 -- refusal 1 or 2, by its number
 first-one : (f k : Bool) (r : Refusal) → (refusalNumber r ≡ 1 → ⊥) → refusalNumber (refuse (not f) outOfRange (refuse k shortWindow r)) ≡ 1 → f ≡ false
@@ -89,65 +89,65 @@ first-neither true false r h1 h2 = (refl, refl)
 pub one : InRange 1
 one = (omega arith, omega arith)
 
-number-at-one : (s : Setting) (k : ℕ) → refusalNumber (delayRefusal s 1) ≡ k → refusalNumber (refuse (not (others s)) outOfRange (refuse (crowded s) shortWindow (lateOf s 1))) ≡ k
-number-at-one s k e = sym (ap refusalNumber (shape s 1 one)) ∙ e
+number-at-one : (m : Limits) (s : Setting) (k : ℕ) → refusalNumber (delayRefusal m s 1) ≡ k → refusalNumber (refuse (not (others m s)) outOfRange (refuse (crowded s) shortWindow (lateOf m s 1))) ≡ k
+number-at-one m s k e = sym (ap refusalNumber (shape m s 1 one)) ∙ e
 
 -- the delay 1 is refused with 1: so is every delay in range
-pub every-one : (s : Setting) → refusalNumber (delayRefusal s 1) ≡ 1 → (td : ℕ) → InRange td → delayRefusal s td ≡ outOfRange
-every-one s e td h =
-    shape s td h ∙ simp (first-one (others s) (crowded s) (lateOf s 1) (late-of s 1 .0) (number-at-one s 1 e))
+pub every-one : (m : Limits) (s : Setting) → refusalNumber (delayRefusal m s 1) ≡ 1 → (td : ℕ) → InRange td → delayRefusal m s td ≡ outOfRange
+every-one m s e td h =
+    shape m s td h ∙ simp (first-one (others m s) (crowded s) (lateOf m s 1) (late-of m s 1 .0) (number-at-one m s 1 e))
 
 -- the same of 2
-pub every-two : (s : Setting) → refusalNumber (delayRefusal s 1) ≡ 2 → (td : ℕ) → InRange td → delayRefusal s td ≡ shortWindow
-every-two s e td h =
-    let f = first-two (others s) (crowded s) (lateOf s 1) (late-of s 1 .1) (number-at-one s 2 e) in
-    shape s td h ∙ simp (f .0, f .1)
+pub every-two : (m : Limits) (s : Setting) → refusalNumber (delayRefusal m s 1) ≡ 2 → (td : ℕ) → InRange td → delayRefusal m s td ≡ shortWindow
+every-two m s e td h =
+    let f = first-two (others m s) (crowded s) (lateOf m s 1) (late-of m s 1 .1) (number-at-one m s 2 e) in
+    shape m s td h ∙ simp (f .0, f .1)
 
 -- ---- a setting that meets neither: what holds of it whatever the delay
 
-pub record Other (s : Setting) : Type 0 where
-  pub fields : others s ≡ true
+pub record Other (m : Limits) (s : Setting) : Type 0 where
+  pub fields : others m s ≡ true
   pub free : crowded s ≡ false
 
-pub other : (s : Setting) → delayRefusal s 1 ≢ outOfRange → delayRefusal s 1 ≢ shortWindow → Other s
-other s h1 h2 =
-    let e = shape s 1 one in
-    let f = first-neither (others s) (crowded s) (lateOf s 1) (λ z. h1 (e ∙ z)) (λ z. h2 (e ∙ z)) in
+pub other : (m : Limits) (s : Setting) → delayRefusal m s 1 ≢ outOfRange → delayRefusal m s 1 ≢ shortWindow → Other m s
+other m s h1 h2 =
+    let e = shape m s 1 one in
+    let f = first-neither (others m s) (crowded s) (lateOf m s 1) (λ z. h1 (e ∙ z)) (λ z. h2 (e ∙ z)) in
     record { fields = f .0; free = f .1 }
 
 -- the same, by numbers
-pub other-number : (s : Setting) → (refusalNumber (delayRefusal s 1) ≡ 1 → ⊥) → (refusalNumber (delayRefusal s 1) ≡ 2 → ⊥) → Other s
-other-number s h1 h2 = other s (λ z. h1 (ap refusalNumber z)) (λ z. h2 (ap refusalNumber z))
+pub other-number : (m : Limits) (s : Setting) → (refusalNumber (delayRefusal m s 1) ≡ 1 → ⊥) → (refusalNumber (delayRefusal m s 1) ≡ 2 → ⊥) → Other m s
+other-number m s h1 h2 = other m s (λ z. h1 (ap refusalNumber z)) (λ z. h2 (ap refusalNumber z))
 
-pub other-ranges : (s : Setting) → Other s → Ranges limits01 (withDelay s 1)
-other-ranges s o = ranges limits01 (withDelay s 1) (rw (o .fields) tt)
+pub other-ranges : (m : Limits) (s : Setting) → Other m s → Ranges m (withDelay s 1)
+other-ranges m s o = ranges m (withDelay s 1) (rw (o .fields) tt)
 
-pub other-room : (s : Setting) → Other s → 2 * s .n * s .trc ≤ s .w - 1
-other-room s o = ltb-false (s .w - 1) (2 * s .n * s .trc) (o .free)
+pub other-room : (m : Limits) (s : Setting) → Other m s → 2 * s .n * s .trc ≤ s .w - 1
+other-room m s o = ltb-false (s .w - 1) (2 * s .n * s .trc) (o .free)
 
-pub other-shape : (s : Setting) → Other s → (td : ℕ) → InRange td → delayRefusal s td ≡ lateOf s td
-other-shape s o td h = shape s td h ∙ simp (o .fields, o .free)
+pub other-shape : (m : Limits) (s : Setting) → Other m s → (td : ℕ) → InRange td → delayRefusal m s td ≡ lateOf m s td
+other-shape m s o td h = shape m s td h ∙ simp (o .fields, o .free)
 
-pub neither : (s : Setting) → Other s → (td : ℕ) → InRange td → (delayRefusal s td ≢ outOfRange) × (delayRefusal s td ≢ shortWindow)
-neither s o td h =
-    let l = late-of s td in
-    let e = sym (other-shape s o td h) in
+pub neither : (m : Limits) (s : Setting) → Other m s → (td : ℕ) → InRange td → (delayRefusal m s td ≢ outOfRange) × (delayRefusal m s td ≢ shortWindow)
+neither m s o td h =
+    let l = late-of m s td in
+    let e = sym (other-shape m s o td h) in
     (λ z. l .0 (ap refusalNumber (e ∙ z)), λ z. l .1 (ap refusalNumber (e ∙ z)))
 
 -- ---- accepted settings
 
-pub accept : (x : Setting) → fieldsInRange limits01 x ≡ true → 2 * x .n * x .trc ≤ x .w - 1 → x .trc ≤ x .td → x .td ≤ epochLength x
-    → historyLength x ≤ 4096 → rowBound x ≤ x .l → settingRefusal limits01 x someSeeds ≡ none
+pub accept : (m : Limits) (x : Setting) → fieldsInRange m x ≡ true → 2 * x .n * x .trc ≤ x .w - 1 → x .trc ≤ x .td → x .td ≤ epochLength x
+    → historyLength x ≤ m .history → rowBound x ≤ x .l → settingRefusal m x someSeeds ≡ none
 unfolding settingRefusal
-accept x f room gaps delay short bound =
-    simp (f, seeds-ok, le-ltb (x .w - 1) (2 * x .n * x .trc) room, le-ltb (x .td) (x .trc) gaps, le-ltb (epochLength x) (x .td) delay, le-ltb 4096 (historyLength x) short, le-ltb (x .l) (rowBound x) bound)
+accept m x f room gaps delay short bound =
+    simp (f, seeds-ok, le-ltb (x .w - 1) (2 * x .n * x .trc) room, le-ltb (x .td) (x .trc) gaps, le-ltb (epochLength x) (x .td) delay, le-ltb (m .history) (historyLength x) short, le-ltb (x .l) (rowBound x) bound)
 
-pub accepted-fields : (x : Setting) → settingRefusal limits01 x someSeeds ≡ none → fieldsInRange limits01 x ≡ true
+pub accepted-fields : (m : Limits) (x : Setting) → settingRefusal m x someSeeds ≡ none → fieldsInRange m x ≡ true
 unfolding settingRefusal
-accepted-fields x e =
-    let r = refuse-none (not (fieldsInRange limits01 x && seedsInRange someSeeds)) outOfRange _ (omega arith) e in
-    is-true (fieldsInRange limits01 x) (and-l (fieldsInRange limits01 x) (seedsInRange someSeeds) (not-not (fieldsInRange limits01 x && seedsInRange someSeeds) (r .0)))
+accepted-fields m x e =
+    let r = refuse-none (not (fieldsInRange m x && seedsInRange someSeeds)) outOfRange _ (omega arith) e in
+    is-true (fieldsInRange m x) (and-l (fieldsInRange m x) (seedsInRange someSeeds) (not-not (fieldsInRange m x && seedsInRange someSeeds) (r .0)))
 
 pub seeds-play-no-part : SeedsPlayNoPart
 unfolding delayRefusal settingRefusal
-seeds-play-no-part s td seeds h = simp (is-true (seedsInRange seeds) h, seeds-ok)
+seeds-play-no-part m s td seeds h = simp (is-true (seedsInRange seeds) h, seeds-ok)

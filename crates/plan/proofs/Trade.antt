@@ -7,9 +7,9 @@ use native.Mathlib.Nat.{le-trans, max-eq-left, max-eq-right}
 use lib.Dec.{leb, ltb, eqb}
 use borrow.Author.Tests.{ltb-true, ltb-false}
 use Rattle.rules.specs.declared.Setting.{Setting}
+use Rattle.rules.specs.declared.Limits.{Limits}
 use Rattle.rules.specs.Answers.{refusalNumber}
 use Rattle.rules.specs.Setting.{historyLength, rowBound}
-use Rattle.rules.specs.Policy.{limits01}
 use Rattle.rules.specs.Tested.{Accepted}
 use Rattle.plan.specs.declared.Plan.{Plan}
 use Rattle.plan.specs.declared.Plan.the-variants.{Between, Nothing}
@@ -32,39 +32,39 @@ longer-delay s a b h k f =
 
 -- ---- accepted delays with a smaller threshold
 
-history-same : (s : Setting) (n m td : ℕ) → historyLength (withDelay (withThreshold s n) td) ≡ historyLength (withDelay (withThreshold s m) td)
+history-same : (s : Setting) (n more td : ℕ) → historyLength (withDelay (withThreshold s n) td) ≡ historyLength (withDelay (withThreshold s more) td)
 unfolding historyLength
-history-same s n m td = refl
+history-same s n more td = refl
 
-bound-smaller : (s : Setting) (n m td : ℕ) → n ≤ m → s .trc ≤ td → 1 ≤ td → 2 * m * s .trc ≤ s .w - 1
-    → rowBound (withDelay (withThreshold s n) td) ≤ rowBound (withDelay (withThreshold s m) td)
+bound-smaller : (s : Setting) (n more td : ℕ) → n ≤ more → s .trc ≤ td → 1 ≤ td → 2 * more * s .trc ≤ s .w - 1
+    → rowBound (withDelay (withThreshold s n) td) ≤ rowBound (withDelay (withThreshold s more) td)
 unfolding rowBound
-bound-smaller s n m td h gaps h1 room = bound-grows n m (s .trc) td (s .w - 1) h gaps h1 room
+bound-smaller s n more td h gaps h1 room = bound-grows n more (s .trc) td (s .w - 1) h gaps h1 room
 
 pub nested : Nested
 unfolding delayRefusal
-nested s n m td h k e =
-    let x = withDelay (withThreshold s m) td in
-    let a : Accepted limits01 x someSeeds = accepted-delay (withThreshold s m) td e in
-    let f = any-threshold s n m td h k (a .ranges .n-high) ∙ accepted-fields x e in
-    accept (withDelay (withThreshold s n) td) f (room-kept n m (s .trc) (s .w - 1) k (a .room)) (a .gaps) (a .delay)
-    (subst (λ (y : ℕ). y ≤ 4096) (history-same s m n td) (a .short))
-    (le-trans (bound-smaller s n m td k (a .gaps) (a .ranges .td-low) (a .room)) (a .bound))
+nested m s n more td h k e =
+    let x = withDelay (withThreshold s more) td in
+    let a : Accepted m x someSeeds = accepted-delay m (withThreshold s more) td e in
+    let f = any-threshold m s n more td h k (a .ranges .n-high) ∙ accepted-fields m x e in
+    accept m (withDelay (withThreshold s n) td) f (room-kept n more (s .trc) (s .w - 1) k (a .room)) (a .gaps) (a .delay)
+    (subst (λ (y : ℕ). y ≤ m .history) (history-same s more n td) (a .short))
+    (le-trans (bound-smaller s n more td k (a .gaps) (a .ranges .td-low) (a .room)) (a .bound))
 
 -- ---- the answers for two thresholds
 
-says : (s : Setting) (p : Plan) → delaysOf s ≡ p → Says s p
-says s p e = subst (Says s) e (right s)
+says : (m : Limits) (s : Setting) (p : Plan) → delaysOf m s ≡ p → Says m s p
+says m s p e = subst (Says m s) e (right m s)
 
 -- the two ends of an answer are the closed form's
-pub ends-are : (s : Setting) (a b : ℕ) → delaysOf s ≡ Between a b → (a ≡ leastDelay s) × (b ≡ greatestDelay s)
+pub ends-are : (m : Limits) (s : Setting) (a b : ℕ) → delaysOf m s ≡ Between a b → (a ≡ leastDelay s) × (b ≡ greatestDelay m s)
 unfolding delaysOf delaysAbove
-ends-are s a b e =
-    go (eqb (refusalNumber (delayRefusal s 1)) 1) (eqb (refusalNumber (delayRefusal s 1)) 2) (leb (s .l) (2 * s .n)) (leb (leastDelay s) (greatestDelay s)) (ltb (2 ^ 29) (smallestDelay s)) _ e
+ends-are m s a b e =
+    go (eqb (refusalNumber (delayRefusal m s 1)) 1) (eqb (refusalNumber (delayRefusal m s 1)) 2) (leb (s .l) (2 * s .n)) (leb (leastDelay s) (greatestDelay m s)) (ltb (2 ^ 29) (smallestDelay s)) _ e
   where
     go : (c1 c2 c3 c4 c5 : Bool) (r : ℕ)
-        → cond c1 (Nothing 1) (cond c2 (Nothing 2) (cond c3 (Nothing 5) (cond c4 (Between (leastDelay s) (greatestDelay s)) (cond c5 (Nothing 5) (Nothing r))))) ≡ Between a b
-        → (a ≡ leastDelay s) × (b ≡ greatestDelay s)
+        → cond c1 (Nothing 1) (cond c2 (Nothing 2) (cond c3 (Nothing 5) (cond c4 (Between (leastDelay s) (greatestDelay m s)) (cond c5 (Nothing 5) (Nothing r))))) ≡ Between a b
+        → (a ≡ leastDelay s) × (b ≡ greatestDelay m s)
     go true c2 c3 c4 c5 r e = let z : _≡_ {A = ℕ} 0 1 = cc in absurd (omega arith)
     go false true c3 c4 c5 r e = let z : _≡_ {A = ℕ} 0 1 = cc in absurd (omega arith)
     go false false true c4 c5 r e = let z : _≡_ {A = ℕ} 0 1 = cc in absurd (omega arith)
@@ -72,31 +72,31 @@ ends-are s a b e =
     go false false false false true r e = let z : _≡_ {A = ℕ} 0 1 = cc in absurd (omega arith)
     go false false false false false r e = let z : _≡_ {A = ℕ} 0 1 = cc in absurd (omega arith)
 
-greatest-same : (s : Setting) (n m : ℕ) → greatestDelay (withThreshold s n) ≡ greatestDelay (withThreshold s m)
+greatest-same : (m : Limits) (s : Setting) (n more : ℕ) → greatestDelay m (withThreshold s n) ≡ greatestDelay m (withThreshold s more)
 unfolding greatestDelay
-greatest-same s n m = refl
+greatest-same m s n more = refl
 
 -- an accepted delay is not below the least one
-not-below : (s : Setting) (a b td : ℕ) → Ends s a b → AcceptedDelay s td → a ≤ td
-not-below s a b td x e = go (ltb td a) refl
+not-below : (m : Limits) (s : Setting) (a b td : ℕ) → Ends m s a b → AcceptedDelay m s td → a ≤ td
+not-below m s a b td x e = go (ltb td a) refl
   where
     go : (t : Bool) → ltb td a ≡ t → a ≤ td
     go true k = absurd (x .below td (ltb-true td a k) e)
     go false k = ltb-false td a k
 
 pub grows : Grows
-grows s n m a b c d h p q =
-    let x : Ends (withThreshold s n) a b = says (withThreshold s n) (Between a b) p in
-    let y : Ends (withThreshold s m) c d = says (withThreshold s m) (Between c d) q in
-    let low = accepted-delay (withThreshold s n) a (x .least-accepted) .ranges .n-low in (
-      not-below (withThreshold s n) a b c x (nested s n m c low h (y .least-accepted)),
-      ends-are (withThreshold s n) a b p .1 ∙ greatest-same s n m ∙ sym (ends-are (withThreshold s m) c d q .1),
+grows m s n more a b c d h p q =
+    let x : Ends m (withThreshold s n) a b = says m (withThreshold s n) (Between a b) p in
+    let y : Ends m (withThreshold s more) c d = says m (withThreshold s more) (Between c d) q in
+    let low = accepted-delay m (withThreshold s n) a (x .least-accepted) .ranges .n-low in (
+      not-below m (withThreshold s n) a b c x (nested m s n more c low h (y .least-accepted)),
+      ends-are m (withThreshold s n) a b p .1 ∙ greatest-same m s n more ∙ sym (ends-are m (withThreshold s more) c d q .1),
     )
 
 pub up-to-last : UpToLast
-up-to-last s n m r low h p c d q =
-    let y : Ends (withThreshold s m) c d = says (withThreshold s m) (Between c d) q in
-    says (withThreshold s n) (Nothing r) p .0 c (nested s n m c low h (y .least-accepted))
+up-to-last m s n more r low h p c d q =
+    let y : Ends m (withThreshold s more) c d = says m (withThreshold s more) (Between c d) q in
+    says m (withThreshold s n) (Nothing r) p .0 c (nested m s n more c low h (y .least-accepted))
 
 -- ---- where it grows
 
@@ -107,11 +107,11 @@ least-flat s free room h =
     max-eq-left (omega arith)
 
 pub flat : Flat
-flat s a b h e =
-    let x : Ends s a b = says s (Between a b) e in
-    let i = inside s a (x .least-accepted) in
-    let r = accepted-delay s a (x .least-accepted) in
-    ends-are s a b e .0 ∙ least-flat s (i .free) (r .room) h
+flat m s a b h e =
+    let x : Ends m s a b = says m s (Between a b) e in
+    let i = inside m s a (x .least-accepted) in
+    let r = accepted-delay m s a (x .least-accepted) in
+    ends-are m s a b e .0 ∙ least-flat s (i .free) (r .room) h
 
 least-decided : (s : Setting) → 2 * s .n < s .l → s .trc * s .l ≤ s .w - 1 → leastDelay s ≡ smallestDelay s
 unfolding leastDelay smallestDelay
@@ -120,6 +120,6 @@ least-decided s free h =
     max-eq-right (omega arith)
 
 pub decided : Decided
-decided s a b h e =
-    let x : Ends s a b = says s (Between a b) e in
-    ends-are s a b e .0 ∙ least-decided s (inside s a (x .least-accepted) .free) h
+decided m s a b h e =
+    let x : Ends m s a b = says m s (Between a b) e in
+    ends-are m s a b e .0 ∙ least-decided s (inside m s a (x .least-accepted) .free) h

@@ -1,32 +1,33 @@
--- What is proved about the delays of a setting: the statements, as types. Their proofs are in proofs/.
+-- What is proved about the delays of a setting, for the limits m of every width: the statements, as types. Their proofs are in proofs/.
 use mathlib.Core.Path.{_≡_}
 use mathlib.Core.List.{List}
 use Prim.Native.Nat.{ℕ, _-_, _*_, _≤_, _<_}
 use lib.Dec.{T}
 use Rattle.rules.specs.declared.Setting.{Setting}
+use Rattle.rules.specs.declared.Limits.{Limits}
 use Rattle.rules.specs.Setting.{historyLength, rowBound, seedsInRange, settingRefusal}
-use Rattle.rules.specs.Policy.{limits01}
 use Rattle.plan.specs.declared.Plan.{Plan}
 use Rattle.plan.specs.declared.Plan.the-variants.{Between, Nothing}
 use Rattle.plan.specs.Delays.{withDelay, withThreshold, delayRefusal, AcceptedDelay, Says}
 use Rattle.plan.specs.Plan.{smallestDelay, delaysOf}
 
--- The answer is right for every setting: both ends are accepted, every delay between them is, none outside them is;
+-- The answer is right for all limits and every setting: both ends are accepted, every delay between them is, none outside them is;
 -- or none is, and the refusal is the one that `Reason` describes.
 abbrev pub Right : Type 0
-Right = (s : Setting) → Says s (delaysOf s)
+Right = (m : Limits) (s : Setting) → Says m s (delaysOf m s)
 
--- No other answer is.
+-- No other answer is, where the limits allow a history at all: H is 4 or more. (Else every delay can be refused with 4 and have B > L too.)
 abbrev pub OnlyOne : Type 0
-OnlyOne = (s : Setting) (a b : Plan) → Says s a → Says s b → a ≡ b
+OnlyOne = (m : Limits) (s : Setting) (a b : Plan) → 4 ≤ m .history → Says m s a → Says m s b → a ≡ b
 
 -- The refusal of a delay is the same for all seeds in range ..
 abbrev pub SeedsPlayNoPart : Type 0
-SeedsPlayNoPart = (s : Setting) (td : ℕ) (seeds : List ℕ) → T (seedsInRange seeds) → settingRefusal limits01 (withDelay s td) seeds ≡ delayRefusal s td
+SeedsPlayNoPart =
+    (m : Limits) (s : Setting) (td : ℕ) (seeds : List ℕ) → T (seedsInRange seeds) → settingRefusal m (withDelay s td) seeds ≡ delayRefusal m s td
 
 -- .. and the answer does not depend on the delay that stands in the setting.
 abbrev pub DelayPlaysNoPart : Type 0
-DelayPlaysNoPart = (s : Setting) (td : ℕ) → delaysOf (withDelay s td) ≡ delaysOf s
+DelayPlaysNoPart = (m : Limits) (s : Setting) (td : ℕ) → delaysOf m (withDelay s td) ≡ delaysOf m s
 
 -- A longer delay never raises B and never shortens the history.
 abbrev pub LongerDelay : Type 0
@@ -38,26 +39,29 @@ LongerDelay =
 
 -- A delay that is accepted with a threshold is accepted with every smaller one.
 abbrev pub Nested : Type 0
-Nested = (s : Setting) (n m td : ℕ) → 1 ≤ n → n ≤ m → AcceptedDelay (withThreshold s m) td → AcceptedDelay (withThreshold s n) td
+Nested =
+    (m : Limits) (s : Setting) (n more td : ℕ) → 1 ≤ n → n ≤ more → AcceptedDelay m (withThreshold s more) td → AcceptedDelay m (withThreshold s n) td
 
 -- So the least delay never falls as N grows, whatever the setting, and the greatest stays. The thresholds that have a delay are those up to a last one.
 abbrev pub Grows : Type 0
 Grows =
-    (s : Setting) (n m a b c d : ℕ) → n ≤ m
-    → delaysOf (withThreshold s n) ≡ Between a b
-    → delaysOf (withThreshold s m) ≡ Between c d
+    (m : Limits) (s : Setting) (n more a b c d : ℕ) → n ≤ more
+    → delaysOf m (withThreshold s n) ≡ Between a b
+    → delaysOf m (withThreshold s more) ≡ Between c d
     → (a ≤ c) × (b ≡ d)
 
 abbrev pub UpToLast : Type 0
-UpToLast = (s : Setting) (n m r : ℕ) → 1 ≤ n → n ≤ m → delaysOf (withThreshold s n) ≡ Nothing r → (c d : ℕ) → delaysOf (withThreshold s m) ≡ Between c d → ⊥
+UpToLast =
+    (m : Limits) (s : Setting) (n more r : ℕ) → 1 ≤ n → n ≤ more
+    → delaysOf m (withThreshold s n) ≡ Nothing r → (c d : ℕ) → delaysOf m (withThreshold s more) ≡ Between c d → ⊥
 
 -- Where L + 1 activations, each tRC after the one before, do not fit in W ticks, the least delay is tRC for every threshold: it does not grow.
 abbrev pub Flat : Type 0
-Flat = (s : Setting) (a b : ℕ) → s .w - 1 < s .trc * s .l → delaysOf s ≡ Between a b → a ≡ s .trc
+Flat = (m : Limits) (s : Setting) (a b : ℕ) → s .w - 1 < s .trc * s .l → delaysOf m s ≡ Between a b → a ≡ s .trc
 
 -- Where they fit, refusal 5 decides the least delay: it is the smallest delay with B ≤ L.
 abbrev pub Decided : Type 0
-Decided = (s : Setting) (a b : ℕ) → s .trc * s .l ≤ s .w - 1 → delaysOf s ≡ Between a b → a ≡ smallestDelay s
+Decided = (m : Limits) (s : Setting) (a b : ℕ) → s .trc * s .l ≤ s .w - 1 → delaysOf m s ≡ Between a b → a ≡ smallestDelay s
 
 pub record Theorems : Type 0 where
   pub right : Right

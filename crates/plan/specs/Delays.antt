@@ -1,13 +1,14 @@
--- The delays of a setting: which of them are accepted, and what an answer about them says. The setting's own delay and the seeds play no part.
+-- The delays of a setting: which of them are accepted, and what an answer about them says, for the limits m of a width.
+-- The setting's own delay and the seeds play no part.
 use mathlib.Core.Path.{_≡_}
 use mathlib.Core.Logic.{_≢_}
 use mathlib.Core.List.{List}
 use Prim.Native.Nat.{ℕ, _^_, _≤_, _<_}
 use lib.ListN.{replicate}
 use Rattle.rules.specs.declared.Setting.{Setting}
+use Rattle.rules.specs.declared.Limits.{Limits}
 use Rattle.rules.specs.Answers.{Refusal, none, outOfRange, shortWindow, refusalNumber}
 use Rattle.rules.specs.Setting.{rowBound, settingRefusal}
-use Rattle.rules.specs.Policy.{limits01}
 use Rattle.plan.specs.declared.Plan.{Plan}
 use Rattle.plan.specs.declared.Plan.the-variants.{Between, Nothing}
 
@@ -26,12 +27,12 @@ abbrev pub someSeeds : List ℕ
 someSeeds = replicate 64 0
 
 -- the refusal that the setting gets with delay td
-unfoldable pub delayRefusal : Setting → ℕ → Refusal
-delayRefusal s td = settingRefusal limits01 (withDelay s td) someSeeds
+unfoldable pub delayRefusal : Limits → Setting → ℕ → Refusal
+delayRefusal m s td = settingRefusal m (withDelay s td) someSeeds
 
 -- the setting is accepted with delay td
-abbrev pub AcceptedDelay : Setting → ℕ → Type 0
-AcceptedDelay s td = delayRefusal s td ≡ none
+abbrev pub AcceptedDelay : Limits → Setting → ℕ → Type 0
+AcceptedDelay m s td = delayRefusal m s td ≡ none
 
 -- "tD 1 to 2^29"
 abbrev pub InRange : ℕ → Type 0
@@ -42,13 +43,13 @@ abbrev pub Bounded : Setting → ℕ → Type 0
 Bounded s td = rowBound (withDelay s td) ≤ s .l
 
 -- the accepted delays are those from least to greatest
-pub record Ends (s : Setting) (least greatest : ℕ) : Type 0 where
+pub record Ends (m : Limits) (s : Setting) (least greatest : ℕ) : Type 0 where
   pub ordered : least ≤ greatest
-  pub least-accepted : AcceptedDelay s least
-  pub greatest-accepted : AcceptedDelay s greatest
-  pub between : (td : ℕ) → least ≤ td → td ≤ greatest → AcceptedDelay s td
-  pub below : (td : ℕ) → td < least → delayRefusal s td ≢ none
-  pub above : (td : ℕ) → greatest < td → delayRefusal s td ≢ none
+  pub least-accepted : AcceptedDelay m s least
+  pub greatest-accepted : AcceptedDelay m s greatest
+  pub between : (td : ℕ) → least ≤ td → td ≤ greatest → AcceptedDelay m s td
+  pub below : (td : ℕ) → td < least → delayRefusal m s td ≢ none
+  pub above : (td : ℕ) → greatest < td → delayRefusal m s td ≢ none
 
 -- d is the smallest delay in range with B ≤ L
 pub record Smallest (s : Setting) (d : ℕ) : Type 0 where
@@ -57,15 +58,15 @@ pub record Smallest (s : Setting) (d : ℕ) : Type 0 where
   pub first : (td : ℕ) → 1 ≤ td → td < d → s .l < rowBound (withDelay s td)
 
 -- Which refusal is given where no delay is accepted.
-pub data Reason (s : Setting) (number : ℕ) : Type 0 where
+pub data Reason (m : Limits) (s : Setting) (number : ℕ) : Type 0 where
   -- the one that every delay in range gets
-  everyDelay : (r : Refusal) → number ≡ refusalNumber r → ((td : ℕ) → InRange td → delayRefusal s td ≡ r) → Reason s number
+  everyDelay : (r : Refusal) → number ≡ refusalNumber r → ((td : ℕ) → InRange td → delayRefusal m s td ≡ r) → Reason m s number
   -- the one that the smallest delay with B ≤ L gets
-  smallestDelay : (d : ℕ) → Smallest s d → number ≡ refusalNumber (delayRefusal s d) → Reason s number
+  smallestDelay : (d : ℕ) → Smallest s d → number ≡ refusalNumber (delayRefusal m s d) → Reason m s number
   -- 5 where every delay in range has B > L, and none of them is refused with 1 or 2
-  noDelay : number ≡ 5 → ((td : ℕ) → InRange td → (s .l < rowBound (withDelay s td)) × (delayRefusal s td ≢ outOfRange) × (delayRefusal s td ≢ shortWindow)) → Reason s number
+  noDelay : number ≡ 5 → ((td : ℕ) → InRange td → (s .l < rowBound (withDelay s td)) × (delayRefusal m s td ≢ outOfRange) × (delayRefusal m s td ≢ shortWindow)) → Reason m s number
 
 -- what an answer says of the setting
-abbrev pub Says : Setting → Plan → Type 0
-Says s (Between least greatest) = Ends s least greatest
-Says s (Nothing number) = ((td : ℕ) → delayRefusal s td ≢ none) × Reason s number
+abbrev pub Says : Limits → Setting → Plan → Type 0
+Says m s (Between least greatest) = Ends m s least greatest
+Says m s (Nothing number) = ((td : ℕ) → delayRefusal m s td ≢ none) × Reason m s number

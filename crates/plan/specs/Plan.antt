@@ -1,10 +1,11 @@
--- The answer in closed form, and what the exported call leaves. `Claims` says what the closed form means.
+-- The answer in closed form, for the limits m of a width, and what the exported call leaves. `Claims` says what the closed form means.
 use mathlib.Core.Path.{_≡_}
 use mathlib.Core.List.{List, [], _∷_}
 use mathlib.Core.Bool.{Bool, true, false, cond}
 use Prim.Native.Nat.{ℕ, _+_, _-_, _*_, _/_, _^_, _≤_, _<_, min, max}
 use lib.Dec.{leb, ltb, eqb}
 use Rattle.rules.specs.declared.Setting.{Setting}
+use Rattle.rules.specs.declared.Limits.{Limits}
 use Rattle.rules.specs.Answers.{refusalNumber}
 use Rattle.rules.specs.Setting.{epochLength, historyLength, rowBound}
 use Rattle.rules.specs.State.{countersUsed, threadsUsed}
@@ -21,22 +22,22 @@ smallestDelay s = (s .w - 1 - 2 * s .n * s .trc) / (s .l - 2 * s .n) + 1
 unfoldable pub leastDelay : Setting → ℕ
 leastDelay s = max (s .trc) (smallestDelay s)
 
--- not above the epoch, and H = 4 × ceil(tD/tFAW) at most 4,096
-unfoldable pub greatestDelay : Setting → ℕ
-greatestDelay s = min (epochLength s) (1024 * s .tfaw)
+-- not above the epoch, and H = 4 × ceil(tD/tFAW) at most the greatest H: 1,024 × tFAW where that is 4,096
+unfoldable pub greatestDelay : Limits → Setting → ℕ
+greatestDelay m s = min (epochLength s) (m .history / 4 * s .tfaw)
 
 -- where the fields other than the delay are in range, two bursts fit in the window, and 2N < L
-unfoldable pub delaysAbove : Setting → Plan
-delaysAbove s =
-    cond (leb (leastDelay s) (greatestDelay s)) (Between (leastDelay s) (greatestDelay s))
-    (cond (ltb (2 ^ 29) (smallestDelay s)) (Nothing 5) (Nothing (refusalNumber (delayRefusal s (smallestDelay s)))))
+unfoldable pub delaysAbove : Limits → Setting → Plan
+delaysAbove m s =
+    cond (leb (leastDelay s) (greatestDelay m s)) (Between (leastDelay s) (greatestDelay m s))
+    (cond (ltb (2 ^ 29) (smallestDelay s)) (Nothing 5) (Nothing (refusalNumber (delayRefusal m s (smallestDelay s)))))
 
 -- Refusals 1 and 2 do not depend on the delay, as long as that is in range.
-unfoldable pub delaysOf : Setting → Plan
-delaysOf s =
-    cond (eqb (refusalNumber (delayRefusal s 1)) 1) (Nothing 1)
-    (cond (eqb (refusalNumber (delayRefusal s 1)) 2) (Nothing 2)
-    (cond (leb (s .l) (2 * s .n)) (Nothing 5) (delaysAbove s)))
+unfoldable pub delaysOf : Limits → Setting → Plan
+delaysOf m s =
+    cond (eqb (refusalNumber (delayRefusal m s 1)) 1) (Nothing 1)
+    (cond (eqb (refusalNumber (delayRefusal m s 1)) 2) (Nothing 2)
+    (cond (leb (s .l) (2 * s .n)) (Nothing 5) (delaysAbove m s)))
 
 -- ---- the last threshold, and what a delay costs
 
@@ -45,14 +46,14 @@ given (Between least greatest) = true
 given (Nothing number) = false
 
 -- some delay is accepted
-unfoldable pub hasDelay : Setting → Bool
-hasDelay s = given (delaysOf s)
+unfoldable pub hasDelay : Limits → Setting → Bool
+hasDelay m s = given (delaysOf m s)
 
 -- n is the last threshold of the table's range with a delay, or 0 where none has one
-pub record Last (s : Setting) (n : ℕ) : Type 0 where
-  pub within : n ≤ 32768
-  pub has : 1 ≤ n → hasDelay (withThreshold s n) ≡ true
-  pub none-after : (m : ℕ) → n < m → m ≤ 32768 → hasDelay (withThreshold s m) ≡ false
+pub record Last (m : Limits) (s : Setting) (n : ℕ) : Type 0 where
+  pub within : n ≤ m .threshold
+  pub has : 1 ≤ n → hasDelay m (withThreshold s n) ≡ true
+  pub none-after : (more : ℕ) → n < more → more ≤ m .threshold → hasDelay m (withThreshold s more) ≡ false
 
 -- H, B, and the bytes of the lent buffers: counters of 16 bits, history ticks of 64 and rows of 32, thread counters of 32
 unfoldable pub costOf : Setting → Cost
@@ -62,6 +63,12 @@ costOf s =
       bound = rowBound s;
       bytes = 2 * countersUsed s + 12 * historyLength s + 4 * threadsUsed s;
     }
+
+-- ---- the limits that the code serves
+
+-- the greatest N and the greatest H of any width: the sums and products of the code stay within their words
+abbrev pub Served : Limits → Type 0
+Served m = (m .threshold ≤ 2 ^ 20) × (m .history ≤ 32768)
 
 -- ---- what the exported call leaves
 

@@ -1,6 +1,8 @@
--- The cases of document 01 about delays, and the chip limits 16,384, 8,192, 4,096 and 2,048 with the timings of BlockHammer's Table 1.
+-- The cases of document 01 about delays, and the chip limits 16,384, 8,192, 4,096 and 2,048 with the timings of BlockHammer's Table 1,
+-- at the limits of the calls with 16-bit counters.
 use mathlib.Core.Path.{_≡_}
 use Rattle.rules.specs.Answers.{aboveLimit}
+use Rattle.rules.specs.Policy.{limits01}
 use Rattle.rules.specs.Samples.{S, tableOne}
 use Rattle.plan.specs.declared.Plan.the-variants.{Between, Nothing}
 use Rattle.plan.specs.Delays.{delayRefusal}
@@ -8,17 +10,17 @@ use Rattle.plan.specs.Plan.{delaysOf}
 
 pub record Cases : Type 0 where
   -- "W 256,000,000, tRC 185, N 4,096, tD 31,065: B = 16,384. With tD 31,064: 16,385."
-  pub table-one : delaysOf (tableOne 4096 0 16384) ≡ Between 31065 143360
-  pub one-less : delayRefusal (tableOne 4096 0 16384) 31064 ≡ aboveLimit
+  pub table-one : delaysOf limits01 (tableOne 4096 0 16384) ≡ Between 31065 143360
+  pub one-less : delayRefusal limits01 (tableOne 4096 0 16384) 31064 ≡ aboveLimit
   -- BlockHammer's own N, 8,192, has no delay under L 16,384, and 8,191 needs a history above 4,096 places
-  pub published : delaysOf (tableOne 8192 0 16384) ≡ Nothing 5
-  pub below-published : delaysOf (tableOne 8191 0 16384) ≡ Nothing 4
+  pub published : delaysOf limits01 (tableOne 8192 0 16384) ≡ Nothing 5
+  pub below-published : delaysOf limits01 (tableOne 8191 0 16384) ≡ Nothing 4
   -- the chip limits 8,192 and 4,096, with a quarter of the limit for N
-  pub limit8192 : delaysOf (tableOne 2048 0 8192) ≡ Between 62315 143360
-  pub limit4096 : delaysOf (tableOne 1024 0 4096) ≡ Between 124815 143360
+  pub limit8192 : delaysOf limits01 (tableOne 2048 0 8192) ≡ Between 62315 143360
+  pub limit4096 : delaysOf limits01 (tableOne 1024 0 4096) ≡ Between 124815 143360
   -- 2,048: a quarter needs a history above 4,096 places; 131 is the last N that does not. Below 1,788 there is none.
-  pub limit2048 : delaysOf (tableOne 512 0 2048) ≡ Nothing 4
-  pub limit2048-last : (delaysOf (tableOne 131 0 2048) ≡ Between 143310 143360) × (delaysOf (tableOne 132 0 2048) ≡ Nothing 4)
-  pub limit1788 : (delaysOf (tableOne 1 0 1788) ≡ Between 143337 143360) × (delaysOf (tableOne 1 0 1787) ≡ Nothing 4)
+  pub limit2048 : delaysOf limits01 (tableOne 512 0 2048) ≡ Nothing 4
+  pub limit2048-last : (delaysOf limits01 (tableOne 131 0 2048) ≡ Between 143310 143360) × (delaysOf limits01 (tableOne 132 0 2048) ≡ Nothing 4)
+  pub limit1788 : (delaysOf limits01 (tableOne 1 0 1788) ≡ Between 143337 143360) × (delaysOf limits01 (tableOne 1 0 1787) ≡ Nothing 4)
   -- S: "W 40, tRC 1, tFAW 4, N 2, .. L 10"
-  pub s : delaysOf S ≡ Between 6 20
+  pub s : delaysOf limits01 S ≡ Between 6 20

@@ -1,11 +1,13 @@
 // Which delays tD a setting is accepted with: the least and the greatest, or the refusal that stands in the way.
+// The functions take the limits of a width; an exported call fixes them.
 // The definitions that the contracts cite are in specs/, with the statements of what they mean.
 ghost use mathlib.Core.Path.{_≡_};
 ghost use Prim.Native.Nat.{_+_, _-_, _*_, _^_, _≤_, _<_, min, max};
 ghost use Rattle.rules.specs.Answers.{refusalNumber};
 ghost use Rattle.rules.specs.Setting.{settingOf, rowBound};
+ghost use Rattle.rules.specs.Policy.{limits01};
 ghost use Rattle.plan.specs.Delays.{withDelay, withThreshold, delayRefusal, AcceptedDelay};
-ghost use Rattle.plan.specs.Plan.{smallestDelay, greatestDelay, delaysAbove, delaysOf, hasDelay, Last, costOf, left, leaves};
+ghost use Rattle.plan.specs.Plan.{smallestDelay, greatestDelay, delaysAbove, delaysOf, hasDelay, Last, Served, costOf, left, leaves};
 
 // The delays that a setting is accepted with.
 pub enum Plan {
@@ -44,11 +46,12 @@ pub fn with_threshold(s: rules::Setting, n: u64) -> rules::Setting
 }
 
 // The number of the refusal that the setting gets with this delay, or 0.
-fn delay_refusal(s: rules::Setting, td: u64) -> u32
-    ensures { λ r. ⌜ r ≡ refusalNumber (delayRefusal s td) ⌝ }
+fn delay_refusal(m: rules::Limits, s: rules::Setting, td: u64) -> u32
+    requires { ⌜ Served m ⌝ }
+    ensures { λ r. ⌜ r ≡ refusalNumber (delayRefusal m s td) ⌝ }
 {
     let seeds = [0u16; 64];
-    setting::refusal(with_delay(s, td), &seeds, 32768, 4096)
+    setting::refusal(m, with_delay(s, td), &seeds)
 }
 
 fn greater(a: u64, b: u64) -> u64
@@ -65,29 +68,29 @@ fn smaller(a: u64, b: u64) -> u64
 
 // The smallest delay with B at most L.
 fn smallest_delay(s: rules::Setting) -> u64
-    requires { ⌜ (1 ≤ s .w) × (s .w ≤ 2 ^ 30) × (2 * s .n * s .trc ≤ s .w - 1) × (2 * s .n < s .l) × (s .n ≤ 2 ^ 15) ⌝ }
+    requires { ⌜ (1 ≤ s .w) × (s .w ≤ 2 ^ 30) × (2 * s .n * s .trc ≤ s .w - 1) × (2 * s .n < s .l) × (s .n ≤ 2 ^ 20) ⌝ }
     ensures { λ r. ⌜ r ≡ smallestDelay s ⌝ }
 {
     let free = 2 * s.n;
     (s.w - 1 - free * s.trc) / (s.l - free) + 1
 }
 
-// The greatest delay that is at most the epoch and needs at most 4,096 history places.
-fn greatest_delay(s: rules::Setting) -> u64
-    requires { ⌜ s .tfaw ≤ 65535 ⌝ }
-    ensures { λ r. ⌜ r ≡ greatestDelay s ⌝ }
+// The greatest delay that is at most the epoch and needs no more history places than the limits allow.
+fn greatest_delay(m: rules::Limits, s: rules::Setting) -> u64
+    requires { ⌜ Served m × (s .tfaw ≤ 65535) ⌝ }
+    ensures { λ r. ⌜ r ≡ greatestDelay m s ⌝ }
 {
-    smaller(s.w / 2, 1024 * s.tfaw)
+    smaller(s.w / 2, m.history / 4 * s.tfaw)
 }
 
 // The delays of a setting whose other fields are in range, with room for two bursts in the window and L above 2N.
-fn delays_above(s: rules::Setting) -> Plan
-    requires { ⌜ (1 ≤ s .w) × (s .w ≤ 2 ^ 30) × (2 * s .n * s .trc ≤ s .w - 1) × (2 * s .n < s .l) × (s .n ≤ 2 ^ 15) × (s .tfaw ≤ 65535) ⌝ }
-    ensures { λ r. ⌜ r ≡ delaysAbove s ⌝ }
+fn delays_above(m: rules::Limits, s: rules::Setting) -> Plan
+    requires { ⌜ Served m × (1 ≤ s .w) × (s .w ≤ 2 ^ 30) × (2 * s .n * s .trc ≤ s .w - 1) × (2 * s .n < s .l) × (s .n ≤ 2 ^ 20) × (s .tfaw ≤ 65535) ⌝ }
+    ensures { λ r. ⌜ r ≡ delaysAbove m s ⌝ }
 {
     let smallest = smallest_delay(s);
     let least = greater(s.trc, smallest);
-    let greatest = greatest_delay(s);
+    let greatest = greatest_delay(m, s);
     if least <= greatest {
         return Plan::Between { least, greatest };
     }
@@ -95,15 +98,16 @@ fn delays_above(s: rules::Setting) -> Plan
         return Plan::Nothing { refusal: 5 };
     }
     Plan::Nothing {
-        refusal: delay_refusal(s, smallest),
+        refusal: delay_refusal(m, s, smallest),
     }
 }
 
 // The delays that the setting is accepted with. The delay that stands in it plays no part.
-pub fn delays(s: rules::Setting) -> Plan
-    ensures { λ r. ⌜ r ≡ delaysOf s ⌝ }
+pub fn delays(m: rules::Limits, s: rules::Setting) -> Plan
+    requires { ⌜ Served m ⌝ }
+    ensures { λ r. ⌜ r ≡ delaysOf m s ⌝ }
 {
-    let first = delay_refusal(s, 1);
+    let first = delay_refusal(m, s, 1);
     if first == 1 {
         return Plan::Nothing { refusal: 1 };
     }
@@ -113,14 +117,15 @@ pub fn delays(s: rules::Setting) -> Plan
     if s.l <= 2 * s.n {
         return Plan::Nothing { refusal: 5 };
     }
-    delays_above(s)
+    delays_above(m, s)
 }
 
 // Some delay is accepted with this threshold.
-fn has_delay(s: rules::Setting, n: u64) -> bool
-    ensures { λ r. ⌜ r ≡ hasDelay (withThreshold s n) ⌝ }
+fn has_delay(m: rules::Limits, s: rules::Setting, n: u64) -> bool
+    requires { ⌜ Served m ⌝ }
+    ensures { λ r. ⌜ r ≡ hasDelay m (withThreshold s n) ⌝ }
 {
-    let p = delays(with_threshold(s, n));
+    let p = delays(m, with_threshold(s, n));
     match p {
         Plan::Between {
             least: _,
@@ -130,13 +135,14 @@ fn has_delay(s: rules::Setting, n: u64) -> bool
     }
 }
 
-// The last threshold up to 32,768 that has an accepted delay, or 0 where none has.
-pub fn last_threshold(s: rules::Setting) -> u64
-    ensures { λ r. ⌜ Last s r ⌝ }
+// The last threshold within the limits that has an accepted delay, or 0 where none has.
+pub fn last_threshold(m: rules::Limits, s: rules::Setting) -> u64
+    requires { ⌜ Served m ⌝ }
+    ensures { λ r. ⌜ Last m s r ⌝ }
 {
-    let mut n: u64 = 32768;
+    let mut n = m.threshold;
     while n > 0 {
-        if has_delay(s, n) {
+        if has_delay(m, s, n) {
             return n;
         }
         n -= 1;
@@ -146,7 +152,7 @@ pub fn last_threshold(s: rules::Setting) -> u64
 
 // B, the most activations of a row in W ticks, with this delay.
 fn row_bound(s: rules::Setting, td: u64) -> u64
-    requires { ⌜ (1 ≤ td) × (1 ≤ s .w) × (s .w ≤ 2 ^ 30) × (s .n ≤ 2 ^ 15) × (2 * s .n * s .trc ≤ s .w - 1) ⌝ }
+    requires { ⌜ (1 ≤ td) × (1 ≤ s .w) × (s .w ≤ 2 ^ 30) × (s .n ≤ 2 ^ 20) × (2 * s .n * s .trc ≤ s .w - 1) ⌝ }
     ensures { λ r. ⌜ r ≡ rowBound (withDelay s td) ⌝ }
 {
     let bursts = 2 * s.n;
@@ -155,15 +161,15 @@ fn row_bound(s: rules::Setting, td: u64) -> u64
 
 // The bytes of the four buffers: 16-bit counters, 64-bit history ticks and 32-bit history rows, 32-bit thread counters.
 fn bytes(banks: u64, threads: u64, history: u64) -> u64
-    requires { ⌜ (banks ≤ 16) × (threads ≤ 32) × (history ≤ 4096) ⌝ }
+    requires { ⌜ (banks ≤ 16) × (threads ≤ 32) × (history ≤ 32768) ⌝ }
     ensures { λ r. ⌜ r ≡ 2 * (banks * 2048) + 12 * history + 4 * (banks * threads * 3) ⌝ }
 {
     2 * (banks * 2048) + 12 * history + 4 * (banks * threads * 3)
 }
 
 // What the setting costs with a delay that is accepted: H, B, and the bytes of the four buffers.
-pub fn costs(s: rules::Setting, td: u64) -> Cost
-    requires { ⌜ AcceptedDelay s td ⌝ }
+pub fn costs(m: rules::Limits, s: rules::Setting, td: u64) -> Cost
+    requires { ⌜ Served m × AcceptedDelay m s td ⌝ }
     ensures { λ r. ⌜ r ≡ costOf (withDelay s td) ⌝ }
 {
     let history = setting::history_length(with_delay(s, td)) as u64;
@@ -176,13 +182,14 @@ pub fn costs(s: rules::Setting, td: u64) -> Cost
     }
 }
 
-// The delays for C: 0, and the least and the greatest delay in out; or the number of the refusal, and out as it was.
+// The delays for C, with the limits of 16-bit counters: 0, and the least and the greatest delay in out; or the number of the refusal,
+// and out as it was.
 // It rules out: an end that is off by one, an interval that leaves out an accepted delay, a refusal where a delay is accepted.
 #[no_mangle]
 pub extern "C" fn throttle_delays(setting: &[u64; 9], out: &mut [u64; 2]) -> u32
-    ensures { λ r. ⌜ left r (now (out .exit)) ≡ leaves (delaysOf (settingOf (now (setting .entry)))) (now (out .entry)) ⌝ }
+    ensures { λ r. ⌜ left r (now (out .exit)) ≡ leaves (delaysOf limits01 (settingOf (now (setting .entry)))) (now (out .entry)) ⌝ }
 {
-    let answer = delays(setting::load(setting));
+    let answer = delays(setting::narrow_limits(), setting::load(setting));
     match answer {
         Plan::Between { least, greatest } => {
             *out = [least, greatest];

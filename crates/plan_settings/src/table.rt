@@ -40,10 +40,11 @@ fn print_reason(refusal: u32) {
 // The line of the setting's threshold.
 fn print_line(s: rules::Setting) {
     print_cell(s.n);
-    let p = plan::delays(s);
+    let m = setting::narrow_limits();
+    let p = plan::delays(m, s);
     match p {
         plan::Plan::Between { least, greatest } => {
-            let c = plan::costs(s, least);
+            let c = plan::costs(m, s, least);
             print_cell(least);
             print_nanoseconds(least);
             print_cell(c.history);
@@ -90,10 +91,17 @@ fn print_powers(s: rules::Setting, last: u64)
     }
 }
 
+// The last threshold that has a delay.
+fn last_threshold(s: rules::Setting) -> u64
+    ensures { λ r. ⌜ r ≤ 32768 ⌝ }
+{
+    plan::last_threshold(setting::narrow_limits(), s)
+}
+
 // The powers of two, the last threshold that has a delay, and the one after it, which has none.
 pub fn print_table(s: rules::Setting) {
     print_head(s);
-    let last = plan::last_threshold(s);
+    let last = last_threshold(s);
     print_powers(s, last);
     if last > 0 {
         print_threshold(s, last);

@@ -1,9 +1,13 @@
 -- `plan::bytes`: the products are small.
+use Prim.Native.Nat.{_*_, _≤_}
 use native.Mathlib.Omega.{arith}
 use Rattle.rules.proofs.Accept.{cells-small}
 use borrow.Author.Needs.{needs}
 use Rattle.plan.proofs.bytes.Statement.{statement}
 use Rattle.plan.proofs.bytes.Tie as tie
+
+small : (c : tie.Start) → c .args .banks * c .args .threads ≤ 512
+small c = cells-small (c .args .banks) (c .args .threads) (search needs) (search needs)
 
 mul-result : tie.Need-mul-result
 mul-result c = search needs
@@ -18,16 +22,16 @@ add-result : tie.Need-add-result
 add-result c = search needs
 
 mul-result-4 : tie.Need-mul-result-4
-mul-result-4 c = omega (arith, cells-small (c .args .banks) (c .args .threads) (search needs) (search needs))
+mul-result-4 c = omega (arith, small c)
 
 mul-result-5 : tie.Need-mul-result-5
-mul-result-5 c = omega (arith, cells-small (c .args .banks) (c .args .threads) (search needs) (search needs))
+mul-result-5 c = omega (arith, small c)
 
 mul-result-6 : tie.Need-mul-result-6
-mul-result-6 c = omega (arith, cells-small (c .args .banks) (c .args .threads) (search needs) (search needs))
+mul-result-6 c = omega (arith, small c)
 
 add-result-2 : tie.Need-add-result-2
-add-result-2 c = omega (arith, cells-small (c .args .banks) (c .args .threads) (search needs) (search needs))
+add-result-2 c = omega (arith, small c)
 
 returns : tie.Need-returns
 returns c = search needs

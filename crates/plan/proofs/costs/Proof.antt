@@ -1,8 +1,8 @@
 -- `plan::costs`: an accepted delay keeps every number within its range.
 use native.Mathlib.Omega.{arith}
 use mathlib.Core.Path.{_≡_, ap, _∙_}
+use Rattle.rules.specs.declared.Setting.{Setting}
 use Rattle.rules.specs.Setting.{historyLength}
-use Rattle.rules.specs.Policy.{limits01}
 use Rattle.rules.specs.Tested.{Accepted}
 use Rattle.plan.specs.Delays.{withDelay, someSeeds}
 use Rattle.plan.specs.Plan.{costOf}
@@ -11,27 +11,41 @@ use borrow.Author.Needs.{needs}
 use Rattle.plan.proofs.costs.Statement.{statement}
 use Rattle.plan.proofs.costs.Tie as tie
 
-ok : (c : tie.After-with-delay) → Accepted limits01 (withDelay (c .before .args .s) (c .before .args .td)) someSeeds
-ok c = accepted-delay (c .before .args .s) (c .before .args .td) (c .before .pre)
+-- the setting with the delay
+abbrev delayed : tie.Start → Setting
+delayed c = withDelay (c .args .s) (c .args .td)
 
-history-is : (c : tie.After-history-length) → c .history-length .result ≡ historyLength (withDelay (c .before .before .args .s) (c .before .before .args .td))
+ok : (c : tie.Start) → Accepted (c .args .m) (delayed c) someSeeds
+ok c = accepted-delay (c .args .m) (c .args .s) (c .args .td) (c .pre .1)
+
+history-is : (c : tie.After-history-length) → c .history-length .result ≡ historyLength (delayed (c .before .before))
 history-is c = c .history-length .ensures ∙ ap historyLength (c .before .with-delay .ensures)
 
 with-delay-requires : tie.Need-with-delay-requires
 with-delay-requires c κs = search needs
 
 history-length-requires : tie.Need-history-length-requires
-history-length-requires c κs = let k = ok (c) .ranges in rw (c .with-delay .ensures) (k .tfaw-low, k .tfaw-high, k .td-high)
+history-length-requires c κs = let k = ok (c .before) .ranges in rw (c .with-delay .ensures) (k .tfaw-low, k .tfaw-high, k .td-high)
 
 row-bound-requires : tie.Need-row-bound-requires
-row-bound-requires c κs = let k = ok (c .before) .ranges in (k .td-low, omega arith, k .w-high, k .n-high, ok (c .before) .room)
+row-bound-requires c κs =
+    let a = ok (c .before .before) in
+    let k = a .ranges in
+    (k .td-low, omega arith, k .w-high, omega arith, a .room)
 
 bytes-requires : tie.Need-bytes-requires
-bytes-requires c κs = let k = ok (c .before .before) in (k .ranges .banks-high, k .ranges .threads-high, rw (history-is (c .before)) (k .short))
+bytes-requires c κs =
+    let start = c .before .before .before in
+    let a = ok start in
+    let short = a .short in
+    let served = start .pre .0 in
+    (a .ranges .banks-high, a .ranges .threads-high, rw (history-is (c .before)) (omega arith))
 
 returns : tie.Need-returns
 unfolding costOf
-returns c = rw (← history-is (c .before .before), ← c .before .row-bound .ensures, ← c .bytes .ensures)
+returns c =
+    let k = c .before in
+    rw (← history-is (k .before), ← k .row-bound .ensures, ← c .bytes .ensures)
 
 pub costs-spec : {M : Type 1} → statement M
 costs-spec =

@@ -1,11 +1,15 @@
 -- `plan::greatest_delay`: by what `smaller` ensures.
+use native.Mathlib.Omega.{arith}
 use Rattle.plan.specs.Plan.{greatestDelay}
+use Rattle.plan.proofs.Served.{places-small}
 use borrow.Author.Needs.{needs}
 use Rattle.plan.proofs.greatest_delay.Statement.{statement}
 use Rattle.plan.proofs.greatest_delay.Tie as tie
 
 mul-smaller : tie.Need-mul-smaller
-mul-smaller c = search needs
+mul-smaller c =
+    let a = c .before .before .before .args in
+    omega (arith, places-small (a .m .history) (a .s .tfaw) (search needs) (search needs))
 
 smaller-requires : tie.Need-smaller-requires
 smaller-requires c κs = search needs

@@ -6,8 +6,8 @@ use borrow.Author.Needs.{needs}
 use Rattle.plan.proofs.has_delay.Statement.{statement}
 use Rattle.plan.proofs.has_delay.Tie as tie
 
-answer-is : (c : tie.After-delays) → c .delays .result ≡ delaysOf (withThreshold (c .before .before .args .s) (c .before .before .args .n))
-answer-is c = c .delays .ensures ∙ ap delaysOf (c .before .with-threshold .ensures)
+answer-is : (c : tie.After-delays) → let a = c .before .before .args in c .delays .result ≡ delaysOf (a .m) (withThreshold (a .s) (a .n))
+answer-is c = rw (← c .before .with-threshold .ensures) (c .delays .ensures)
 
 with-threshold-requires : tie.Need-with-threshold-requires
 with-threshold-requires c κs = search needs

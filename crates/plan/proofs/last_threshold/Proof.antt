@@ -8,21 +8,26 @@ use Rattle.plan.proofs.last_threshold.Statement.{statement}
 use Rattle.plan.proofs.last_threshold.Tie as tie
 
 abbrev Inv-loop : tie.InvT-loop
-Inv-loop s n₀ n = (n ≤ 32768) × NoneAfter s n
+Inv-loop m s n₀ n = (n ≤ m .threshold) × NoneAfter m s n
 
 abbrev μ-loop : tie.MeasureT-loop
-μ-loop s n₀ n = n
+μ-loop m s n₀ n = n
+
+-- the place where the loop's test has been reached
+abbrev at : tie.After-has-delay Inv-loop μ-loop → tie.At-loop Inv-loop μ-loop
+at c = c .before .before
 
 loop-holds : tie.Need-loop-holds Inv-loop μ-loop
-loop-holds c = (omega arith, λ m h k. absurd (omega arith))
+loop-holds c = (omega arith, λ more h k. absurd (omega arith))
 
 has-delay-requires : tie.Need-has-delay-requires Inv-loop μ-loop
 has-delay-requires c κs = search needs
 
 returns : tie.Need-returns Inv-loop μ-loop
 returns c =
-    let l = c .before .before .before .loop in
-    record { within = l .inv .0; has = λ h. sym (c .before .has-delay .ensures) ∙ c .if1 .taken; none-after = l .inv .1 }
+    let k = c .before in
+    let l = at k .loop in
+    record { within = l .inv .0; has = λ h. sym (k .has-delay .ensures) ∙ c .if1 .taken; none-after = l .inv .1 }
 
 sub-n : tie.Need-sub-n Inv-loop μ-loop
 sub-n c = search needs
@@ -32,8 +37,10 @@ loop-less c = search needs
 
 loop-again : tie.Need-loop-again Inv-loop μ-loop
 loop-again c =
-    let l = c .before .before .before .loop in
-    (omega arith, one-less (c .before .before .before .before .args .s) (l .n) (search needs) (sym (c .before .has-delay .ensures) ∙ c .if1 .left) (l .inv .1))
+    let k = c .before in
+    let l = at k .loop in
+    let a = at k .before .args in
+    (omega arith, one-less (a .m) (a .s) (l .n) (search needs) (sym (k .has-delay .ensures) ∙ c .if1 .left) (l .inv .1))
 
 returns-2 : tie.Need-returns-2 Inv-loop μ-loop
 returns-2 c =

@@ -28,8 +28,9 @@ div-result c = search needs
 
 add-result-2 : tie.Need-add-result-2
 add-result-2 c =
-    let s = c .before .before .before .args .s in
-    omega (arith, div-le-self (s .w - 1 - 2 * s .n * s .trc) (c .before .before .before .args .td))
+    let a = c .before .before .before .args in
+    let s = a .s in
+    omega (arith, div-le-self (s .w - 1 - 2 * s .n * s .trc) (a .td))
 
 returns : tie.Need-returns
 unfolding rowBound
