@@ -1,13 +1,8 @@
 // plan_settings W TRC TFAW L [N], in whole ticks: the least and the greatest delay tD that is accepted, over thresholds N or for the
 // one given, with H, B and the bytes of the lent buffers. The table goes to standard output, an error to standard error.
-// What it prints of a threshold is what the proved functions of the crate `plan` answer.
-use crate::arguments::Number;
-use crate::arguments::argument;
-
-mod arguments;
-mod faults;
-mod table;
-mod text;
+use plan_arguments::Number;
+use plan_arguments::argument;
+use plan_arguments::faults;
 
 // The number of argument i, which is reported where it is none.
 fn field(i: usize) -> Number {
@@ -43,9 +38,9 @@ fn answer(w: u64, trc: u64, tfaw: u64, n: u64, l: u64, is_one: bool) {
         return;
     }
     if is_one {
-        table::print_one(s);
+        plan_table::print_one(s);
     } else {
-        table::print_table(s);
+        plan_table::print_table(s);
     }
 }
 

@@ -3,8 +3,8 @@ use mathlib.Core.Path.{sym, _∙_}
 use Rattle.plan.proofs.Served.{narrow-served}
 use Rattle.plan.proofs.Lasting.{least-accepted}
 use borrow.Author.Needs.{needs}
-use Rattle.plan_settings.proofs.table.print_line.Statement.{statement}
-use Rattle.plan_settings.proofs.table.print_line.Tie as tie
+use Rattle.plan_table.proofs.print_line.Statement.{statement}
+use Rattle.plan_table.proofs.print_line.Tie as tie
 
 print-cell-requires : tie.Need-print-cell-requires
 print-cell-requires c κs = search needs

@@ -10,7 +10,7 @@ use lib.Dec.{ltb}
 use lib.ListN.{length, getD}
 use borrow.Author.Tests.{lt-ltb, le-ltb, lt-leb, le-leb, ne-eqb}
 use Rattle.rules.specs.Cells.{between}
-use Rattle.plan_settings.specs.Decimal.{value, wrong, followed, digitsFrom, numberOf}
+use Rattle.plan_arguments.specs.Decimal.{value, wrong, followed, digitsFrom, numberOf}
 
 step : (n : ℕ) (word : List ℕ) (i v code : ℕ) → 0 < n → code ≡ getD word i 0
     → digitsFrom n word i v ≡ cond (between 48 57 code) (cond (ltb 4294967295 (followed v code)) wrong (digitsFrom (n - 1) word (i + 1) (followed v code))) wrong

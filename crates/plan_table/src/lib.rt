@@ -1,9 +1,12 @@
-// The table over thresholds, and the lines below it.
+// The table that the program plan_settings prints: a line for each threshold, and the lines below it. What it prints of a threshold is
+// what the proved functions of the crate `plan` answer.
 ghost use Prim.Native.Nat.{_≤_};
 use crate::text::print;
 use crate::text::print_cell;
 use crate::text::print_nanoseconds;
 use crate::text::print_number;
+
+mod text;
 
 fn print_head(s: rules::Setting) {
     print(b"W ");

@@ -1,5 +1,4 @@
-// Lines and columns on standard output, messages on standard error.
-use libc::STDERR_FILENO;
+// Lines and columns on standard output.
 use libc::STDOUT_FILENO;
 
 pub fn print(text: &[u8]) {
@@ -8,10 +7,6 @@ pub fn print(text: &[u8]) {
 
 pub fn print_number(n: u64) {
     io::print_decimal(STDOUT_FILENO, n);
-}
-
-pub fn complain(text: &[u8]) {
-    io::write_all(STDERR_FILENO, text);
 }
 
 // Blanks in front of a text of so many bytes, so that both fill 12.

@@ -1,8 +1,8 @@
 -- `print_powers`: the threshold doubles up to the last one.
 use Prim.Native.Nat.{_-_, _≤_}
 use borrow.Author.Needs.{needs}
-use Rattle.plan_settings.proofs.table.print_powers.Statement.{statement}
-use Rattle.plan_settings.proofs.table.print_powers.Tie as tie
+use Rattle.plan_table.proofs.print_powers.Statement.{statement}
+use Rattle.plan_table.proofs.print_powers.Tie as tie
 
 abbrev Inv-loop : tie.InvT-loop
 Inv-loop s last n₀ n = (1 ≤ n) × (n ≤ 65536)

@@ -4,11 +4,11 @@ use mathlib.Core.Path.{_≡_, sym, _∙_}
 use native.Mathlib.Omega.{arith}
 use lib.ListN.{length}
 use borrow.Author.Tests.{eq-eqb}
-use Rattle.plan_settings.specs.Decimal.{digitsFrom, numberOf}
-use Rattle.plan_settings.proofs.Reading.{no-digit-low, no-digit-high, too-large, one-more, all-read, at-start}
+use Rattle.plan_arguments.specs.Decimal.{digitsFrom, numberOf}
+use Rattle.plan_arguments.proofs.Reading.{no-digit-low, no-digit-high, too-large, one-more, all-read, at-start}
 use borrow.Author.Needs.{needs}
-use Rattle.plan_settings.proofs.arguments.read_word.Statement.{statement}
-use Rattle.plan_settings.proofs.arguments.read_word.Tie as tie
+use Rattle.plan_arguments.proofs.read_word.Statement.{statement}
+use Rattle.plan_arguments.proofs.read_word.Tie as tie
 
 abbrev Inv-loop : tie.InvT-loop
 Inv-loop word v₀ i₀ v i = (i ≤ length word) × (v ≤ 4294967295) × (digitsFrom (length word - i) word i v ≡ numberOf word)

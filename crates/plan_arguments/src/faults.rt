@@ -1,5 +1,7 @@
 // What is wrong with the arguments: messages on standard error. The ranges are those of document 01's table.
-use crate::text::complain;
+fn complain(text: &[u8]) {
+    io::write_all(libc::STDERR_FILENO, text);
+}
 
 fn report_usage() {
     complain(

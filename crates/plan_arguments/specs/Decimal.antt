@@ -5,7 +5,7 @@ use Prim.Native.Nat.{ℕ, zero, suc, _+_, _-_, _*_}
 use lib.Dec.{ltb, eqb}
 use lib.ListN.{length, getD}
 use Rattle.rules.specs.Cells.{between}
-use Rattle.plan_settings.specs.declared.arguments.Number.{Number}
+use Rattle.plan_arguments.specs.declared.Number.{Number}
 
 abbrev pub value : ℕ → Number
 value v = record { ok = true; value = v }

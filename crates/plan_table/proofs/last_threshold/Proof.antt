@@ -4,8 +4,8 @@ use mathlib.Core.Path.{subst}
 use Rattle.rules.specs.declared.Limits.{Limits}
 use Rattle.plan.proofs.Served.{narrow-served}
 use borrow.Author.Needs.{needs}
-use Rattle.plan_settings.proofs.table.last_threshold.Statement.{statement}
-use Rattle.plan_settings.proofs.table.last_threshold.Tie as tie
+use Rattle.plan_table.proofs.last_threshold.Statement.{statement}
+use Rattle.plan_table.proofs.last_threshold.Tie as tie
 
 narrow-limits-requires : tie.Need-narrow-limits-requires
 narrow-limits-requires c κs = search needs

@@ -1,6 +1,8 @@
-// The words of the command line as numbers.
+// The command line of the program plan_settings: its words as numbers, and messages on what is wrong with them.
 ghost use mathlib.Core.Path.{_≡_};
-ghost use Rattle.plan_settings.specs.Decimal.{numberOf, wrong as Decimal·wrong};
+ghost use Rattle.plan_arguments.specs.Decimal.{numberOf, wrong as Decimal·wrong};
+
+pub mod faults;
 
 // A number, or no number where ok is false.
 pub struct Number {
