@@ -8,11 +8,11 @@ use borrow.Author.Tests.{eq-eqb, ne-eqb}
 use Rattle.rules.specs.declared.Setting.{Setting}
 use Rattle.rules.specs.declared.Head.{Head}
 use Rattle.rules.specs.State.{State, freshHead, state}
-use Rattle.log.specs.Refusals.{logRefusalNumber}
-use Rattle.log.specs.Contents.{countIn, entriesIn}
-use Rattle.log.specs.Blocks.{blockRefusal}
-use Rattle.log.specs.Verdict.{Running, Step, over, on, andThen, nextBlock, memory, judgeRecords, judgeStart, judgeLater, judgeSound, judgeBlock}
-use Rattle.log.proofs.Steps.{sound-laid-out, later-count}
+use Rattle.log_format.specs.Refusals.{logRefusalNumber}
+use Rattle.log_format.specs.Contents.{countIn, entriesIn}
+use Rattle.log_format.specs.Blocks.{blockRefusal}
+use Rattle.log_format.specs.Verdict.{Running, Step, over, on, andThen, nextBlock, memory, judgeRecords, judgeStart, judgeLater, judgeSound, judgeBlock}
+use Rattle.log_format.proofs.Steps.{sound-laid-out, later-count}
 use Rattle.checker.specs.declared.Progress.{Progress}
 use Rattle.checker.specs.declared.Report.{Report}
 use Rattle.checker.specs.declared.Report.the-variants.{Refused}

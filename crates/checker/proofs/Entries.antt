@@ -14,10 +14,10 @@ use Rattle.rules.specs.Quota.{document01}
 use Rattle.rules.specs.Calls.{request, done, Reply, answered, finished, Outcome, returnCode, step}
 use Rattle.rules.proofs.Sound.{Sound}
 use Rattle.throttle.specs.Told.{Told, Over}
-use Rattle.log.specs.declared.Entry.{Entry}
-use Rattle.log.specs.Verdict.{Step, over, on, openedBy, counted, differsHere, judgeRecord}
-use Rattle.log.proofs.Records.{outcomeOf}
-use Rattle.log.proofs.Replies.{call-request, call-done, record-refused, record-answered, record-finished, opened-number}
+use Rattle.log_format.specs.declared.Entry.{Entry}
+use Rattle.log_format.specs.Verdict.{Step, over, on, openedBy, counted, differsHere, judgeRecord}
+use Rattle.log_format.proofs.Records.{outcomeOf}
+use Rattle.log_format.proofs.Replies.{call-request, call-done, record-refused, record-answered, record-finished, opened-number}
 use Rattle.checker.specs.declared.Progress.{Progress}
 use Rattle.checker.specs.declared.Report.the-variants.{Refused, Differs}
 use Rattle.checker.specs.Follow.{running, Follows, refusedBy, countedOne, settled, Judged}

@@ -8,9 +8,9 @@ use lib.Dec.{eqb}
 use lib.ListN.{length}
 use borrow.Author.Tests.{eq-eqb, ne-eqb}
 use Rattle.rules.specs.State.{freshHead}
-use Rattle.log.specs.Bytes.{blockAt, blocksFrom}
-use Rattle.log.specs.Verdict.{Verdict, Running, Step, over, on, memory, ended, verdictOf, judgeSound, judgeBlock, judgeBlocks, unread, verdict}
-use Rattle.log.proofs.Steps.{blocks-step}
+use Rattle.log_format.specs.Bytes.{blockAt, blocksFrom}
+use Rattle.log_format.specs.Verdict.{Verdict, Running, Step, over, on, memory, ended, verdictOf, judgeSound, judgeBlock, judgeBlocks, unread, verdict}
+use Rattle.log_format.proofs.Steps.{blocks-step}
 use Rattle.checker.specs.declared.Progress.{Progress}
 use Rattle.checker.specs.declared.Report.{Report}
 use Rattle.checker.specs.declared.Report.the-variants.{Refused, Agrees}

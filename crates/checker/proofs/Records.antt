@@ -8,10 +8,10 @@ use Rattle.rules.specs.declared.Setting.{Setting}
 use Rattle.rules.specs.declared.Head.{Head}
 use Rattle.rules.specs.State.{State}
 use Rattle.rules.proofs.Sound.{Sound}
-use Rattle.log.specs.declared.Entry.{Entry}
-use Rattle.log.specs.Contents.{entryIn, entriesFrom}
-use Rattle.log.specs.Verdict.{Running, Step, on, judgeRecord, judgeRecords}
-use Rattle.log.proofs.Steps.{records-step}
+use Rattle.log_format.specs.declared.Entry.{Entry}
+use Rattle.log_format.specs.Contents.{entryIn, entriesFrom}
+use Rattle.log_format.specs.Verdict.{Running, Step, on, judgeRecord, judgeRecords}
+use Rattle.log_format.proofs.Steps.{records-step}
 use Rattle.checker.specs.declared.Progress.{Progress}
 use Rattle.checker.specs.declared.Report.{Report}
 use Rattle.checker.specs.declared.After.{After}

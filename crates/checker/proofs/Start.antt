@@ -16,10 +16,10 @@ use Rattle.rules.specs.Quota.{limits01, document01}
 use Rattle.rules.specs.Calls.{setupRefusal}
 use Rattle.rules.proofs.Accept.{accepted, number-none, first-refusal, set-up}
 use Rattle.rules.proofs.Sound.{Sound, fresh-sound}
-use Rattle.log.specs.Refusals.{model}
-use Rattle.log.specs.Contents.{settingIn, seedsIn}
-use Rattle.log.specs.Verdict.{refusedAfter, over, on, memory, setUp, judgeStart}
-use Rattle.log.proofs.Agrees.{memory-long, setup-accepts}
+use Rattle.log_format.specs.Refusals.{model}
+use Rattle.log_format.specs.Contents.{settingIn, seedsIn}
+use Rattle.log_format.specs.Verdict.{refusedAfter, over, on, memory, setUp, judgeStart}
+use Rattle.log_format.proofs.Agrees.{memory-long, setup-accepts}
 use Rattle.checker.specs.declared.Progress.{Progress}
 use Rattle.checker.specs.declared.Report.the-variants.{Refused}
 use Rattle.checker.specs.Follow.{running}

@@ -3,7 +3,7 @@ use mathlib.Core.Path.{_≡_, ap}
 use mathlib.Core.Bool.{Bool, true, false}
 use Prim.Native.Nat.{ℕ}
 use native.Mathlib.Omega.{arith}
-use Rattle.log.specs.Verdict.{Running, Step, over, on, andThen}
+use Rattle.log_format.specs.Verdict.{Running, Step, over, on, andThen}
 use Rattle.checker.specs.declared.Report.{Report}
 use Rattle.checker.specs.Follow.{Follows}
 

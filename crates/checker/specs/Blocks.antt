@@ -8,7 +8,7 @@ use Rattle.rules.specs.Setting.{settingRefusal}
 use Rattle.rules.specs.Quota.{limits01}
 use Rattle.rules.proofs.Sound.{Sound}
 use Rattle.rules.specs.State.{state}
-use Rattle.log.specs.Verdict.{Running, Step, memory}
+use Rattle.log_format.specs.Verdict.{Running, Step, memory}
 use Rattle.checker.specs.declared.Report.{Report}
 use Rattle.checker.specs.declared.Reading.{Reading}
 use Rattle.checker.specs.Follow.{running, Follows}

@@ -8,9 +8,9 @@ use Rattle.rules.specs.declared.Setting.{Setting}
 use Rattle.rules.specs.declared.Head.{Head}
 use Rattle.rules.specs.State.{State}
 use Rattle.rules.proofs.Sound.{Sound}
-use Rattle.log.specs.declared.Entry.{Entry}
-use Rattle.log.specs.Refusals.{logRefusalNumber}
-use Rattle.log.specs.Verdict.{agrees, differs, Verdict, refusedAfter, judged, Progress as LogProgress, Running, Step, over, on}
+use Rattle.log_format.specs.declared.Entry.{Entry}
+use Rattle.log_format.specs.Refusals.{logRefusalNumber}
+use Rattle.log_format.specs.Verdict.{agrees, differs, Verdict, refusedAfter, judged, Progress as LogProgress, Running, Step, over, on}
 use Rattle.checker.specs.declared.Progress.{Progress}
 use Rattle.checker.specs.declared.Report.{Report}
 use Rattle.checker.specs.declared.Report.the-variants.{Refused, Agrees, Differs}

@@ -14,8 +14,8 @@ ghost use Rattle.rules.specs.Setting.{settingRefusal};
 ghost use Rattle.rules.specs.State.{freshHead, state};
 ghost use Rattle.rules.specs.Quota.{limits01};
 ghost use Rattle.rules.proofs.Sound.{Sound};
-ghost use Rattle.log.specs.Contents.{countIn, entriesIn};
-ghost use Rattle.log.specs.Verdict.{memory, judgeRecords, judgeStart, judgeLater, judgeBlock};
+ghost use Rattle.log_format.specs.Contents.{countIn, entriesIn};
+ghost use Rattle.log_format.specs.Verdict.{memory, judgeRecords, judgeStart, judgeLater, judgeBlock};
 ghost use Rattle.checker.specs.Follow.{running, Room, Judged};
 ghost use Rattle.checker.specs.Blocks.{readSoFar, Ready, JudgedBlock};
 
@@ -34,12 +34,12 @@ fn judge_records(
     requires { ⌜ (settingRefusal limits01 s (now seeds) ≡ none) × Sound s (state h (now counters) (now ticks) (now rows) (now threads)) × Room p 20 × (countIn (now block) ≤ 20) ⌝ }
     ensures { λ r. ⌜ Judged s (now (seeds .entry)) p 20 r (state (r .head) (now (counters .exit)) (now (ticks .exit)) (now (rows .exit)) (now (threads .exit))) (judgeRecords (running p s (now (seeds .entry)) (state h (now (counters .entry)) (now (ticks .entry)) (now (rows .entry)) (now (threads .entry)))) (entriesIn (now (block .entry)))) ⌝ }
 {
-    let n = log::contents::count(block) as usize;
+    let n = log_read::contents::count(block) as usize;
     let mut progress = p;
     let mut head = h;
     let mut k: usize = 0;
     while k < n {
-        let e = log::contents::entry_at(block, k);
+        let e = log_read::contents::entry_at(block, k);
         let r = judge_record(s, seeds, head, counters, ticks, rows, threads, progress, e);
         if r.over {
             return r;
@@ -131,8 +131,8 @@ pub fn fresh_head() -> Head
 fn judge_start(block: &[u8; 512]) -> Next
     ensures { λ r. ⌜ (r .reading .head ≡ freshHead) × JudgedBlock 0 (r .over) (r .report) (running (r .reading .progress) (r .reading .setting) (r .reading .seeds) memory) (judgeStart (now (block .entry))) ⌝ }
 {
-    let s = log::contents::setting(block);
-    let seeds = log::contents::seeds(block);
+    let s = log_read::contents::setting(block);
+    let seeds = log_read::contents::seeds(block);
     let code = setting::refusal(s, &seeds, 32768, 4096);
     let head = fresh_head();
     let progress = Progress {
@@ -169,7 +169,7 @@ pub fn judge_block(
     ensures { λ r. ⌜ JudgedBlock (x .progress .blocks) (r .over) (r .report) (readSoFar (r .reading) (now (counters .exit)) (now (ticks .exit)) (now (rows .exit)) (now (threads .exit))) (judgeBlock (readSoFar x (now (counters .entry)) (now (ticks .entry)) (now (rows .entry)) (now (threads .entry))) (now (block .entry))) ⌝ }
 {
     let p = x.progress;
-    let code = log::block::refusal(block, p.blocks, p.last);
+    let code = log_read::block::refusal(block, p.blocks, p.last);
     if code != 0 {
         return Next {
             over: true,

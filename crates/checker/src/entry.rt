@@ -2,7 +2,7 @@
 use crate::After;
 use crate::Progress;
 use crate::Report;
-use log::Entry;
+use log_format::Entry;
 use rules::Head;
 use rules::Setting;
 ghost use mathlib.Core.Path.{_≡_};
@@ -14,7 +14,7 @@ ghost use Rattle.rules.specs.Setting.{settingRefusal};
 ghost use Rattle.rules.specs.Quota.{limits01};
 ghost use Rattle.rules.proofs.Sound.{Sound};
 ghost use Rattle.rules.specs.State.{state};
-ghost use Rattle.log.specs.Verdict.{judgeRecord};
+ghost use Rattle.log_format.specs.Verdict.{judgeRecord};
 ghost use Rattle.checker.specs.Follow.{running, refusedBy, settled, Room, Judged};
 
 // The record claims this answer and this wait tick.

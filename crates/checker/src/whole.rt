@@ -8,8 +8,8 @@ use rules::Setting;
 ghost use mathlib.Core.Path.{_≡_};
 ghost use Prim.Native.Nat.{_+_, _*_, _≤_};
 ghost use lib.ListN.{length};
-ghost use Rattle.log.specs.Bytes.{blockAt};
-ghost use Rattle.log.specs.Verdict.{memory, ended, unread, verdict};
+ghost use Rattle.log_format.specs.Bytes.{blockAt};
+ghost use Rattle.log_format.specs.Verdict.{memory, ended, unread, verdict};
 ghost use Rattle.checker.specs.Follow.{progressOf, reportOf};
 ghost use Rattle.checker.specs.Blocks.{readSoFar, Ready};
 

@@ -10,11 +10,11 @@ use Rattle.rules.specs.History.{nextPlace, back, neverRises, memoryOk, rowFree}
 use Rattle.rules.specs.Quota.{quotaDown}
 use Rattle.rules.specs.Decision.{passesAt, waitTick, decide, activatedHead, activatedThreads, activated}
 use Rattle.rules.specs.Calls.{setupRefusal, callRefusal, doneRefusal, unlessRefused, requested, reported, step}
-use Rattle.log.specs.Bytes.{little, bytesOf, zeros, blockAt}
-use Rattle.log.specs.Contents.{settingIn, halves, seedsIn, entryIn}
-use Rattle.log.specs.Blocks.{sumTo, weightedTo, checked, startLaidOut, recordLaidOut, recordsLaidOut, inTurn, laidOut, blockRefusal}
-use Rattle.log.specs.Verdict.{claims, judgeRecord, judgeRecords, memory, judgeStart, judgeLater, judgeSound, judgeBlock, judgeBlocks, unread, verdict}
-use Rattle.log.specs.Encode.{recordBytes, putRecord, headed, padded, summed, framed, numbersBytes, putStart, putRecords, recordsBlock, startBlock, laterBlocks, logBytes}
+use Rattle.log_format.specs.Bytes.{little, bytesOf, zeros, blockAt}
+use Rattle.log_format.specs.Contents.{settingIn, halves, seedsIn, entryIn}
+use Rattle.log_format.specs.Blocks.{sumTo, weightedTo, checked, startLaidOut, recordLaidOut, recordsLaidOut, inTurn, laidOut, blockRefusal}
+use Rattle.log_format.specs.Verdict.{claims, judgeRecord, judgeRecords, memory, judgeStart, judgeLater, judgeSound, judgeBlock, judgeBlocks, unread, verdict}
+use Rattle.log_format.specs.Encode.{recordBytes, putRecord, headed, padded, summed, framed, numbersBytes, putStart, putRecords, recordsBlock, startBlock, laterBlocks, logBytes}
 use Rattle.log_samples.specs.Samples.{Cases, logS}
 
 pub cases : Cases

@@ -3,7 +3,7 @@ use Prim.Native.Nat.{_-_, _^_}
 use mathlib.Core.Path.{_≡_}
 use native.Mathlib.Omega.{arith}
 use lib.ListN.{length}
-use Rattle.log.specs.Verdict.{memory}
+use Rattle.log_format.specs.Verdict.{memory}
 use Rattle.checker.specs.Blocks.{readSoFar, Ready}
 use borrow.Author.Needs.{needs}
 use Rattle.check_log.proofs.run.Statement.{statement}

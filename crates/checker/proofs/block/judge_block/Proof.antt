@@ -1,7 +1,7 @@
 -- `judge_block` tests the block, and then judges its setting or its records.
 use mathlib.Core.Path.{sym, _∙_}
 use native.Mathlib.Omega.{arith}
-use Rattle.log.specs.Verdict.{Running}
+use Rattle.log_format.specs.Verdict.{Running}
 use Rattle.checker.specs.Blocks.{readSoFar}
 use Rattle.checker.proofs.Blocks.{block-refused, block-later, block-count, start-memory}
 use borrow.Author.Needs.{needs}

@@ -4,7 +4,7 @@ use Prim.Native.Nat.{_-_, _≤_}
 use native.Mathlib.Omega.{arith}
 use lib.ListN.{length}
 use Rattle.rules.specs.State.{State, state}
-use Rattle.log.specs.Contents.{countIn}
+use Rattle.log_format.specs.Contents.{countIn}
 use Rattle.checker.specs.declared.Report.the-variants.{Agrees}
 use Rattle.checker.proofs.Records.{Going, going-none, going-more, going-over, going-all}
 use borrow.Author.Needs.{needs}

@@ -5,7 +5,7 @@ use mathlib.Core.Bool.{Bool}
 use native.Mathlib.Omega.{arith}
 use lib.Dec.{eqb}
 use lib.ListN.{length}
-use Rattle.log.specs.Verdict.{Running, memory}
+use Rattle.log_format.specs.Verdict.{Running, memory}
 use Rattle.checker.specs.Follow.{reportOf}
 use Rattle.checker.specs.Blocks.{readSoFar}
 use Rattle.checker.proofs.Logs.{Through, through-none, through-more, through-over, through-all, of-bytes}

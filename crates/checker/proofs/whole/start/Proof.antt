@@ -1,6 +1,6 @@
 -- `start` has read nothing, and its model is fresh.
 use mathlib.Core.Path.{refl}
-use Rattle.log.specs.Verdict.{unread}
+use Rattle.log_format.specs.Verdict.{unread}
 use Rattle.checker.proofs.Logs.{start-ready}
 use borrow.Author.Needs.{needs}
 use Rattle.checker.proofs.whole.start.Statement.{statement}
