@@ -13,18 +13,16 @@ use Rattle.rules.specs.declared.Cause.the-variants.{Bank, Rank, Row}
 use Rattle.rules.specs.declared.Answer.{Answer}
 use Rattle.rules.specs.declared.Answer.the-variants.{Opened, Wait, Quota}
 use Rattle.rules.specs.Answers.{answerNumber}
-use Rattle.rules.specs.Setting.{epochLength}
 use Rattle.rules.specs.State.{State, countersUsed, threadsUsed, threadCell, state}
 use Rattle.rules.specs.Clock.{epoch, turnedCounters, turnedThreads, movedHead, turned}
 use Rattle.rules.specs.Hash.{places}
-use Rattle.rules.specs.Filter.{Within, two, blacklisted}
+use Rattle.rules.specs.Filter.{Within, blacklisted}
 use Rattle.rules.specs.Policy.{Policy, inForce}
 use Rattle.rules.specs.Decision.{activeEstimate, decide, activated}
 use Rattle.rules.specs.Tested.{Accepted, Taken, Sound}
 use Rattle.rules.specs.Calls.{answered, afterAnswer, outcome, requested}
 use Rattle.rules.proofs.Accept.{epoch-long, scale-pos}
 use Rattle.rules.proofs.Places.{places-within}
-use Rattle.rules.proofs.Filter.{both-same}
 use Rattle.rules.proofs.Memory.{taken-memory, turned-long, activated-long, activated-memory}
 use Rattle.rules.proofs.Step.{opened-rules}
 use Rattle.rules.proofs.Regular.{in-force-regular}

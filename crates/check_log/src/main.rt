@@ -1,6 +1,6 @@
 // The program check_log: reads a log from standard input, a block of 512 bytes at a time, and writes the report of document 01.
 // It stops at the first event and reads no further block. The verdict is the checker's; this program only reads and writes.
-use checker::Report;
+use judge::Report;
 use libc::STDIN_FILENO;
 use libc::STDOUT_FILENO;
 
@@ -40,20 +40,20 @@ fn run() -> Report {
     let mut ticks = [0u64; 4096];
     let mut rows = [0u32; 4096];
     let mut threads = [0u32; 1536];
-    let mut x = checker::whole::start();
+    let mut x = checker::start();
     loop {
         match fill(&mut block) {
             Filled::Whole => {}
             Filled::End => {
                 let p = x.progress;
-                return checker::whole::at_end(p, true);
+                return checker::at_end(p, true);
             }
             Filled::Cut => {
                 let p = x.progress;
-                return checker::whole::at_end(p, false);
+                return checker::at_end(p, false);
             }
         }
-        let r = checker::block::judge_block(
+        let r = checker_block::judge_block(
             x,
             &mut counters,
             &mut ticks,

@@ -6,7 +6,7 @@ use native.Mathlib.Omega.{arith}
 use native.Mathlib.Decide.{ℕ-discrete}
 use lib.ListN.{length, getD, set, take, drop, length-set, length-take, length-drop}
 use lib.Seq.{ext-getD, getD-set-same, getD-set-other, getD-take, getD-drop}
-use Rattle.log.specs.Bytes.{blockAt}
+use Rattle.log_format.specs.Bytes.{blockAt}
 
 -- the first k bytes of a block are those of the log from a place on
 pub record Copied (bytes : List ℕ) (at k : ℕ) (block : List ℕ) : Type 0 where

@@ -8,16 +8,16 @@ use lib.Dec.{eqb}
 use lib.ListN.{length}
 use borrow.Author.Tests.{eq-eqb, ne-eqb}
 use Rattle.rules.specs.State.{freshHead}
-use Rattle.log.specs.Bytes.{blockAt, blocksFrom}
-use Rattle.log.specs.Verdict.{Verdict, Running, Step, over, on, memory, ended, verdictOf, judgeSound, judgeBlock, judgeBlocks, unread, verdict}
-use Rattle.log.proofs.Steps.{blocks-step}
-use Rattle.checker.specs.declared.Progress.{Progress}
-use Rattle.checker.specs.declared.Report.{Report}
-use Rattle.checker.specs.declared.Report.the-variants.{Refused, Agrees}
-use Rattle.checker.specs.declared.Reading.{Reading}
-use Rattle.checker.specs.Follow.{progressOf, reportOf, Follows}
-use Rattle.checker.specs.Blocks.{readSoFar, Ready, JudgedBlock}
-use Rattle.checker.proofs.Steps.{not-both}
+use Rattle.log_format.specs.Bytes.{blockAt, blocksFrom}
+use Rattle.log_format.specs.Verdict.{Verdict, Running, Step, over, on, memory, ended, verdictOf, judgeSound, judgeBlock, judgeBlocks, unread, verdict}
+use Rattle.log_format.proofs.Steps.{blocks-step}
+use Rattle.judge.specs.declared.Progress.{Progress}
+use Rattle.judge.specs.declared.Report.{Report}
+use Rattle.judge.specs.declared.Report.the-variants.{Refused, Agrees}
+use Rattle.checker_block.specs.declared.Reading.{Reading}
+use Rattle.judge.specs.Follow.{progressOf, reportOf, Follows}
+use Rattle.checker_block.specs.Blocks.{readSoFar, Ready, JudgedBlock}
+use Rattle.checker_block.proofs.Steps.{not-both}
 
 -- ---- before the first block
 

@@ -1,58 +1,115 @@
-// The log checker: judges records, blocks and whole logs. It calls the model and the log's format only through their contracts,
-// and every step is proved to be the one of the log's definition of the verdict.
-use rules::Head;
+// The log checker: a whole log in a slice of bytes, block by block, and what a caller that reads the blocks itself needs at both ends of
+// the input. A block is judged only through its contract; the report is proved to be the one of the log's definition of the verdict.
+use checker_block::Reading;
+use checker_block::fresh_head;
+use checker_block::judge_block;
+use judge::Progress;
+use judge::Report;
 use rules::Setting;
+ghost use mathlib.Core.Path.{_≡_};
+ghost use Prim.Native.Nat.{_+_, _*_, _≤_};
+ghost use lib.ListN.{length};
+ghost use Rattle.log_format.specs.Bytes.{blockAt};
+ghost use Rattle.log_format.specs.Verdict.{memory, ended, unread, verdict};
+ghost use Rattle.judge.specs.Follow.{progressOf, reportOf};
+ghost use Rattle.checker_block.specs.Blocks.{readSoFar, Ready};
 
-pub mod block;
-pub mod entry;
-pub mod whole;
-
-// How far a log is read: whole blocks, records judged, records that the rules open, records of the last block.
-pub struct Progress {
-    pub blocks: u64,
-    pub records: u64,
-    pub opened: u64,
-    pub last: u64,
+// Before the first block, with buffers of zeros: 32,768 counters, 4,096 ticks and rows, 1,536 thread counters. The setting and the seeds
+// are not looked at.
+pub fn start() -> Reading
+    ensures { λ r. ⌜ (progressOf (r .progress) ≡ unread .progress) × Ready (readSoFar r (memory .counters) (memory .ticks) (memory .rows) (memory .threads)) ⌝ }
+{
+    let progress = Progress {
+        blocks: 0,
+        records: 0,
+        opened: 0,
+        last: 0,
+    };
+    let setting = Setting {
+        w: 0,
+        trc: 0,
+        tfaw: 0,
+        n: 0,
+        td: 0,
+        l: 0,
+        q: 0,
+        banks: 0,
+        threads: 0,
+    };
+    let head = fresh_head();
+    Reading {
+        progress,
+        setting,
+        seeds: [0; 64],
+        head,
+    }
 }
 
-// What the checker says of a log: a refusal's number and the whole blocks before the one at fault, or the counts of the records judged
-// and of those that the rules open, with the block and the place in it of a record that differs.
-pub enum Report {
-    Refused {
-        number: u64,
-        blocks: u64,
-    },
-    Agrees {
-        records: u64,
-        opened: u64,
-    },
-    Differs {
-        records: u64,
-        opened: u64,
-        block: u64,
-        place: u64,
-    },
+// The end of the input, of which nothing is left behind the last whole block, or some bytes are.
+pub fn at_end(p: Progress, whole: bool) -> Report
+    ensures { λ r. ⌜ r ≡ reportOf (ended (progressOf p) whole) ⌝ }
+{
+    if whole {
+        if p.blocks == 0 {
+            return Report::Refused {
+                number: 11,
+                blocks: 0,
+            };
+        }
+        return Report::Agrees {
+            records: p.records,
+            opened: p.opened,
+        };
+    }
+    Report::Refused {
+        number: 11,
+        blocks: p.blocks,
+    }
 }
 
-// After records of a block: the log is over with this report, or it goes on with this progress and head.
-pub struct After {
-    pub over: bool,
-    pub report: Report,
-    pub progress: Progress,
-    pub head: Head,
+// Block b of a log.
+fn block_at(bytes: &[u8], b: usize) -> [u8; 512]
+    requires { ⌜ 512 * b + 512 ≤ length (now bytes) ⌝ }
+    ensures { λ r. ⌜ r ≡ blockAt (now (bytes .entry)) b ⌝ }
+{
+    let at = 512 * b;
+    let mut block = [0u8; 512];
+    for i in 0..512 {
+        block[i] = bytes[at + i];
+    }
+    block
 }
 
-// A log that is read so far: the progress, the setting and the seeds of block 0, and the head of the model. The caller lends the buffers.
-pub struct Reading {
-    pub progress: Progress,
-    pub setting: Setting,
-    pub seeds: [u16; 64],
-    pub head: Head,
-}
-
-// After a block: the log is over with this report, or it goes on from here.
-pub struct Next {
-    pub over: bool,
-    pub report: Report,
-    pub reading: Reading,
+// The report of a log, for every list of bytes.
+// It rules out: a checker that judges half of the blocks, counts every record as opened, or accepts a log that is cut.
+pub fn judge_log(bytes: &[u8]) -> Report
+    ensures { λ r. ⌜ r ≡ reportOf (verdict (now (bytes .entry))) ⌝ }
+{
+    let mut counters = [0u16; 32768];
+    let mut ticks = [0u64; 4096];
+    let mut rows = [0u32; 4096];
+    let mut threads = [0u32; 1536];
+    let n = bytes.len() / 512;
+    let mut x = start();
+    let mut b: usize = 0;
+    while b < n {
+        let block = block_at(bytes, b);
+        let r = judge_block(
+            x,
+            &mut counters,
+            &mut ticks,
+            &mut rows,
+            &mut threads,
+            &block,
+        );
+        if r.over {
+            let report = r.report;
+            return report;
+        }
+        let next = r.reading;
+        x = next;
+        b += 1;
+    }
+    let p = x.progress;
+    at_end(p, bytes.len() % 512 == 0)
 }

@@ -1,16 +1,16 @@
 // The encoder, for C and for Rattle alike: block 0 from a setting and seeds, records put into a block, the block sealed.
 // A call that is refused gives a number and leaves the block as it was.
-use crate::Entry;
-use crate::block::add_up;
 use crate::bytes::put;
-use crate::tests::and;
+use log_format::Entry;
+use log_read::block::add_up;
+use log_read::tests::and;
 ghost use mathlib.Core.Path.{_≡_};
 ghost use Prim.Native.Nat.{_+_, _*_, _≤_, _<_, _^_};
 ghost use lib.Dec.{ltb};
 ghost use lib.ListN.{length, getD};
 ghost use lib.Seq.{sets};
 ghost use Rattle.rules.specs.Cells.{every};
-ghost use Rattle.log.specs.Encode.{written, recordFits, putRecord, recordWritten, headed, padded, summed, framed, sealWritten, numbersBytes, startWritten};
+ghost use Rattle.log_format.specs.Encode.{written, recordFits, putRecord, recordWritten, headed, padded, summed, framed, sealWritten, numbersBytes, startWritten};
 
 // ---- the frame of a block
 

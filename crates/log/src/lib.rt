@@ -1,21 +1,3 @@
-// The log of document 01: blocks of 512 bytes. What a block holds, whether it is sound, and how one is written.
-// The format and the verdict of a whole log are definitions in specs/.
-pub mod block;
+// The log writer, for C and for Rattle: how a block of a log is written. The format is defined in the crate `log_format`.
 mod bytes;
-pub mod contents;
 pub mod encode;
-mod tests;
-
-// A record of the log: a call with the answer and the wait tick that it claims.
-pub struct Entry {
-    pub tick: u64,
-    // The wait tick; 0 for answers 0 and 4.
-    pub wait: u64,
-    pub row: u16,
-    pub bank: u64,
-    pub thread: u64,
-    // 0 request, 1 done.
-    pub kind: u64,
-    // 0 opened or done, 1 bank, 2 rank, 3 row, 4 quota.
-    pub answer: u64,
-}

@@ -4,10 +4,10 @@ use mathlib.Core.List.{List, [], _∷_}
 use Prim.Native.Nat.{ℕ}
 use lib.ListN.{replicate}
 use Rattle.rules.specs.Samples.{house}
-use Rattle.log.specs.declared.Entry.{Entry}
-use Rattle.log.specs.Refusals.{cut}
-use Rattle.log.specs.Verdict.{agrees, differs, refusedAfter, judged, verdict}
-use Rattle.log.specs.Encode.{logBytes}
+use Rattle.log_format.specs.declared.Entry.{Entry}
+use Rattle.log_format.specs.Refusals.{cut}
+use Rattle.log_format.specs.Verdict.{agrees, differs, refusedAfter, judged, verdict}
+use Rattle.log_format.specs.Encode.{logBytes}
 
 -- a request of row 5 under S, with the answer and the wait tick that the log claims
 abbrev pub asks : ℕ → ℕ → ℕ → Entry

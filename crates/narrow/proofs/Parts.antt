@@ -1,6 +1,6 @@
 -- A move of the clock, a look and an activation, put together from what the filters and the rest of the state give.
 use Prim.Native.Nat.{ℕ, _+_, _-_, _%_}
-use mathlib.Core.Path.{_≡_, ap, ap₂, _∙_}
+use mathlib.Core.Path.{_≡_, ap, _∙_}
 use mathlib.Core.List.{List}
 use mathlib.Core.Bool.{Bool}
 use native.Mathlib.Omega.{arith}
@@ -8,10 +8,10 @@ use lib.ListN.{set}
 use Rattle.rules.specs.declared.Setting.{Setting}
 use Rattle.rules.specs.Setting.{historyLength}
 use Rattle.rules.specs.State.{State, rowWord}
-use Rattle.rules.specs.Clock.{epoch, activeFilter}
+use Rattle.rules.specs.Clock.{epoch}
 use Rattle.rules.specs.Filter.{estimate, blacklisted, counted}
 use Rattle.rules.specs.Decision.{activeEstimate, activatedHead, activatedThreads, activated}
-use Rattle.decision.specs.Numbers.{passiveFilter, passiveEstimate}
+use Rattle.decision.specs.Numbers.{passiveEstimate}
 
 -- the two estimates that the code reads, with e the epoch of the last tick
 pub active-read : (s : Setting) (at : ℕ → List ℕ) (st : State) (bank e r : ℕ) → e ≡ epoch s (st .head .last)

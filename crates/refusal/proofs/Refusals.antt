@@ -1,11 +1,11 @@
 -- The refusals of a call, test by test.
 use Prim.Native.Nat.{ℕ, suc, _+_, _≤_, _<_}
-use mathlib.Core.Path.{_≡_, refl, sym, ap, _∙_, subst}
+use mathlib.Core.Path.{_≡_, refl, sym, ap, subst}
 use mathlib.Core.Logic.{_≢_}
 use mathlib.Core.List.{List}
 use mathlib.Core.Bool.{Bool, true, false, not, _&&_, _||_}
 use native.Mathlib.Omega.{arith}
-use lib.Dec.{T, leb, ltb, eqb, nltb→le, nleb→lt}
+use lib.Dec.{T, leb, ltb, nltb→le, nleb→lt}
 use borrow.Author.Tests.{le-ltb, eq-eqb, ne-eqb}
 use lib.ListN.{length, getD}
 use Rattle.rules.specs.declared.Setting.{Setting}
@@ -14,7 +14,7 @@ use Rattle.rules.specs.declared.Head.{Head}
 use Rattle.rules.specs.Cells.{every}
 use Rattle.rules.specs.Answers.{Refusal, none, shortBuffer, badMemory, outsideSetting, refusalNumber, refuse, orElse}
 use Rattle.rules.specs.Setting.{historyLength, settingRefusal}
-use Rattle.rules.specs.State.{State, countersUsed, threadsUsed, tooShort, threadCell}
+use Rattle.rules.specs.State.{State, countersUsed, threadsUsed, tooShort}
 use Rattle.rules.specs.History.{notAfter, neverRises, memoryOk}
 use Rattle.rules.specs.Tested.{Accepted}
 use Rattle.rules.specs.Calls.{setupRefusal, callRefusal, doneRefusal}

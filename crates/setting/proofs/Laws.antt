@@ -1,5 +1,5 @@
 -- Laws of the setting's tests, over plain numbers and tests: what the ranges give, the seeds' sum, the size of products and quotients.
-use mathlib.Core.Path.{_≡_, refl}
+use mathlib.Core.Path.{_≡_}
 use mathlib.Core.List.{List}
 use mathlib.Core.Bool.{Bool, true, _&&_}
 use Prim.Native.Nat.{ℕ, suc, _+_, _-_, _*_, _/_, _^_, _≤_, _<_}

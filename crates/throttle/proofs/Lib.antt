@@ -1,3 +1,1 @@
-pub mod Request
 pub mod Settled
-pub mod Tells

@@ -1,10 +1,8 @@
 -- What a call of the C interface finds and leaves: its return code, the words it writes, the head's words and the four buffers.
-use Prim.Native.Nat.{ℕ, _-_}
+use Prim.Native.Nat.{ℕ}
 use mathlib.Core.List.{List}
-use lib.ListN.{getD, set}
-use Rattle.rules.specs.declared.Setting.{Setting}
 use Rattle.rules.specs.declared.Head.{Head}
-use Rattle.rules.specs.State.{State, state, threadCell, headOf, headWords}
+use Rattle.rules.specs.State.{State, state, headOf, headWords}
 use Rattle.rules.specs.Calls.{Reply, refused, answered, finished, shown, Outcome, returnCode, outWords}
 
 pub record Left : Type 0 where
@@ -24,9 +22,6 @@ left code out head counters ticks rows threads =
 abbrev pub found : List ℕ → List ℕ → List ℕ → List ℕ → List ℕ → State
 found words counters ticks rows threads = state (headOf words) counters ticks rows threads
 
-abbrev pub outcome : Reply → State → Outcome
-outcome reply st = record { reply = reply; state = st }
-
 -- the head's words after a call: those of the new head, or as they were where the call is refused
 abbrev pub wordsLeft : Reply → List ℕ → Head → List ℕ
 wordsLeft (refused r) words h = words
@@ -39,7 +34,3 @@ unfoldable pub leaves : Outcome → List ℕ → List ℕ → Left
 leaves o out words =
     left (returnCode (o .reply)) (outWords (o .reply) out) (wordsLeft (o .reply) words (o .state .head))
     (o .state .counters) (o .state .ticks) (o .state .rows) (o .state .threads)
-
--- the thread counters with one less in flight
-unfoldable pub oneLess : Setting → ℕ → ℕ → List ℕ → List ℕ
-oneLess s bank thread ts = set ts (threadCell s bank thread 2) (getD ts (threadCell s bank thread 2) 0 - 1)

@@ -1,22 +1,24 @@
 // The throttle: set-up, request, done and index for C, proved against the rules. Every call returns 0 when it answered, and else
 // the number of its refusal; a refused call changes nothing that was lent. Of buffers that overlap nothing is promised.
-use crate::words::answer_number;
-use crate::words::answer_wait;
-use crate::words::load_head;
-use crate::words::store_head;
 use refusal::call_refusal;
 use refusal::done_refusal;
 use refusal::setup_refusal;
+use setting::narrow_limits;
+use words::load_head;
+use words::store_head;
 ghost use mathlib.Core.Path.{_≡_};
 ghost use mathlib.Core.List.{[]};
 ghost use Rattle.rules.specs.Setting.{settingOf};
-ghost use Rattle.rules.specs.Policy.{document01};
+ghost use Rattle.rules.specs.Policy.{limits01, narrow};
 ghost use Rattle.rules.specs.Calls.{request, done, index, setup, step};
 ghost use Rattle.throttle.specs.Left.{left, found, leaves};
 
-mod calls;
-pub mod sound;
-pub mod words;
+// For callers in Rattle that own their memory: set-up, request and done without the test of the whole history, and the numbers of an answer.
+pub use sound::done;
+pub use sound::request;
+pub use sound::setup;
+pub use words::answer_number;
+pub use words::answer_wait;
 
 // Set-up: clears the head and the used parts of the buffers.
 // It rules out: a set-up that refuses an accepted setting, clears half of the counters, or leaves stored ticks in the head.
@@ -30,10 +32,11 @@ pub extern "C" fn throttle_setup(
     rows: &mut [u32],
     threads: &mut [u32],
 ) -> u32
-    ensures { λ r. ⌜ left r [] (now (head .exit)) (now (counters .exit)) (now (ticks .exit)) (now (rows .exit)) (now (threads .exit)) ≡ leaves (setup document01 (settingOf (now (setting .entry))) (now (seeds .entry)) (found (now (head .entry)) (now (counters .entry)) (now (ticks .entry)) (now (rows .entry)) (now (threads .entry)))) [] (now (head .entry)) ⌝ }
+    ensures { λ r. ⌜ left r [] (now (head .exit)) (now (counters .exit)) (now (ticks .exit)) (now (rows .exit)) (now (threads .exit)) ≡ leaves (setup limits01 (settingOf (now (setting .entry))) (now (seeds .entry)) (found (now (head .entry)) (now (counters .entry)) (now (ticks .entry)) (now (rows .entry)) (now (threads .entry)))) [] (now (head .entry)) ⌝ }
 {
     let s = setting::load(setting);
     let code = setup_refusal(
+        narrow_limits(),
         s,
         seeds,
         counters.len(),
@@ -44,10 +47,7 @@ pub extern "C" fn throttle_setup(
     if code != 0 {
         return code;
     }
-    filter::clear(counters, (s.banks * 2048) as usize);
-    history::clear(ticks, rows, setting::history_length(s));
-    quota::clear(threads, (s.banks * s.threads * 3) as usize);
-    *head = [0; 22];
+    store_head(narrow::fresh(s, counters, ticks, rows, threads), head);
     0
 }
 
@@ -68,18 +68,19 @@ pub extern "C" fn throttle_request(
     row: u16,
     out: &mut [u64; 2],
 ) -> u32
-    ensures { λ r. ⌜ left r (now (out .exit)) (now (head .exit)) (now (counters .exit)) (now (ticks .exit)) (now (rows .exit)) (now (threads .exit)) ≡ leaves (step document01 (settingOf (now (setting .entry))) (now (seeds .entry)) (found (now (head .entry)) (now (counters .entry)) (now (ticks .entry)) (now (rows .entry)) (now (threads .entry))) (request tick bank thread row)) (now (out .entry)) (now (head .entry)) ⌝ }
+    ensures { λ r. ⌜ left r (now (out .exit)) (now (head .exit)) (now (counters .exit)) (now (ticks .exit)) (now (rows .exit)) (now (threads .exit)) ≡ leaves (step narrow (settingOf (now (setting .entry))) (now (seeds .entry)) (found (now (head .entry)) (now (counters .entry)) (now (ticks .entry)) (now (rows .entry)) (now (threads .entry))) (request tick bank thread row)) (now (out .entry)) (now (head .entry)) ⌝ }
 {
     let s = setting::load(setting);
     let h = load_head(&*head);
     let code = call_refusal(
+        narrow_limits(),
         s,
         seeds,
         h,
-        &*counters,
+        counters.len(),
         &*ticks,
-        &*rows,
-        &*threads,
+        rows.len(),
+        threads.len(),
         tick,
         bank,
         thread,
@@ -122,17 +123,18 @@ pub extern "C" fn throttle_done(
     bank: u64,
     thread: u64,
 ) -> u32
-    ensures { λ r. ⌜ left r [] (now (head .exit)) (now (counters .exit)) (now (ticks .exit)) (now (rows .exit)) (now (threads .exit)) ≡ leaves (step document01 (settingOf (now (setting .entry))) (now (seeds .entry)) (found (now (head .entry)) (now (counters .entry)) (now (ticks .entry)) (now (rows .entry)) (now (threads .entry))) (done tick bank thread)) [] (now (head .entry)) ⌝ }
+    ensures { λ r. ⌜ left r [] (now (head .exit)) (now (counters .exit)) (now (ticks .exit)) (now (rows .exit)) (now (threads .exit)) ≡ leaves (step narrow (settingOf (now (setting .entry))) (now (seeds .entry)) (found (now (head .entry)) (now (counters .entry)) (now (ticks .entry)) (now (rows .entry)) (now (threads .entry))) (done tick bank thread)) [] (now (head .entry)) ⌝ }
 {
     let s = setting::load(setting);
     let h = load_head(&*head);
     let code = done_refusal(
+        narrow_limits(),
         s,
         seeds,
         h,
-        &*counters,
+        counters.len(),
         &*ticks,
-        &*rows,
+        rows.len(),
         &*threads,
         tick,
         bank,
@@ -164,18 +166,19 @@ pub extern "C" fn throttle_index(
     thread: u64,
     out: &mut [u64; 3],
 ) -> u32
-    ensures { λ r. ⌜ left r (now (out .exit)) (now (head .exit)) (now (counters .exit)) (now (ticks .exit)) (now (rows .exit)) (now (threads .exit)) ≡ leaves (step document01 (settingOf (now (setting .entry))) (now (seeds .entry)) (found (now (head .entry)) (now (counters .entry)) (now (ticks .entry)) (now (rows .entry)) (now (threads .entry))) (index tick bank thread)) (now (out .entry)) (now (head .entry)) ⌝ }
+    ensures { λ r. ⌜ left r (now (out .exit)) (now (head .exit)) (now (counters .exit)) (now (ticks .exit)) (now (rows .exit)) (now (threads .exit)) ≡ leaves (step narrow (settingOf (now (setting .entry))) (now (seeds .entry)) (found (now (head .entry)) (now (counters .entry)) (now (ticks .entry)) (now (rows .entry)) (now (threads .entry))) (index tick bank thread)) (now (out .entry)) (now (head .entry)) ⌝ }
 {
     let s = setting::load(setting);
     let h = load_head(&*head);
     let code = call_refusal(
+        narrow_limits(),
         s,
         seeds,
         h,
-        &*counters,
+        counters.len(),
         &*ticks,
-        &*rows,
-        &*threads,
+        rows.len(),
+        threads.len(),
         tick,
         bank,
         thread,

@@ -3,8 +3,8 @@ use Prim.Native.Nat.{_-_, _^_}
 use mathlib.Core.Path.{_≡_}
 use native.Mathlib.Omega.{arith}
 use lib.ListN.{length}
-use Rattle.log.specs.Verdict.{memory}
-use Rattle.checker.specs.Blocks.{readSoFar, Ready}
+use Rattle.log_format.specs.Verdict.{memory}
+use Rattle.checker_block.specs.Blocks.{readSoFar, Ready}
 use borrow.Author.Needs.{needs}
 use Rattle.check_log.proofs.run.Statement.{statement}
 use Rattle.check_log.proofs.run.Tie as tie

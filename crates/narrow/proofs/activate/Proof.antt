@@ -1,6 +1,5 @@
 -- `activate` counts the row in the filters, then records it in the rest of the state.
-use mathlib.Core.Path.{_≡_}
-use Rattle.rules.specs.State.{State, state}
+use Rattle.rules.specs.State.{state}
 use Rattle.rules.specs.Filter.{two}
 use Rattle.narrow.proofs.Parts.{activated-parts}
 use borrow.Author.Needs.{needs}

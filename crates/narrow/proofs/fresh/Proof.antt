@@ -1,8 +1,5 @@
 -- `fresh` clears the used parts, buffer by buffer.
-use mathlib.Core.Path.{_≡_, ap, _∙_}
 use native.Mathlib.Omega.{arith}
-use lib.Dec.{ltb}
-use Rattle.rules.specs.Cells.{clearCells}
 use Rattle.rules.specs.State.{freshHead, fresh}
 use Rattle.rules.proofs.Accept.{cells-small}
 use borrow.Author.Needs.{needs}

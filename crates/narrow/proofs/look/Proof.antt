@@ -1,8 +1,5 @@
 -- `look` reads both estimates and hands them on.
-use mathlib.Core.Path.{_≡_, ap₂, _∙_}
-use Prim.Native.Nat.{_≤_, _<_, _*_, _+_}
-use native.Mathlib.Omega.{arith}
-use lib.ListN.{length}
+use mathlib.Core.Path.{ap₂, _∙_}
 use Rattle.rules.specs.State.{State, state}
 use Rattle.rules.specs.Filter.{two}
 use Rattle.rules.specs.Policy.{narrow}

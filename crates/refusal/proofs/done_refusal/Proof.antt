@@ -1,5 +1,5 @@
 -- `done_refusal` gives the refusals of a call, then 10.
-use mathlib.Core.Path.{_≡_, sym, ap, _∙_}
+use mathlib.Core.Path.{sym, ap, _∙_}
 use lib.Dec.{eqb}
 use lib.ListN.{length, getD}
 use Rattle.rules.specs.Answers.{Refusal, none, noneInFlight, refusalNumber, refuse}

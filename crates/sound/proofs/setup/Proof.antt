@@ -1,10 +1,9 @@
 -- `setup` is refused as the rules say, or clears the used parts.
 use mathlib.Core.Path.{_≡_, sym, ap, _∙_}
-use Prim.Native.Nat.{ℕ}
 use native.Mathlib.Omega.{arith}
 use lib.ListN.{length}
 use Rattle.rules.specs.Answers.{none, refusalNumber}
-use Rattle.rules.specs.State.{State, state, freshHead, fresh}
+use Rattle.rules.specs.State.{State, state, fresh}
 use Rattle.rules.specs.Policy.{limits01}
 use Rattle.rules.specs.Tested.{SetUp}
 use Rattle.rules.specs.Calls.{setupRefusal}

@@ -1,43 +1,48 @@
 -- `throttle_done` is refused as the rules say, or is the rules' done.
-use Prim.Native.Nat.{_≤_}
-use mathlib.Core.Path.{_≡_, sym, _∙_}
+use mathlib.Core.Path.{_≡_, sym, ap, ap₂, _∙_}
 use mathlib.Core.List.{[]}
-use lib.ListN.{getD}
-use Rattle.rules.specs.Answers.{refusalNumber}
+use native.Mathlib.Omega.{arith}
+use lib.ListN.{length}
+use Rattle.rules.specs.declared.Setting.{Setting}
+use Rattle.rules.specs.Answers.{none, refusalNumber}
 use Rattle.rules.specs.Setting.{settingOf}
-use Rattle.rules.specs.State.{State, threadCell, state}
+use Rattle.rules.specs.State.{State}
 use Rattle.rules.specs.Clock.{turned}
-use Rattle.rules.specs.Policy.{document01}
+use Rattle.rules.specs.Policy.{limits01, narrow}
+use Rattle.rules.specs.Tested.{Taken}
 use Rattle.rules.specs.Calls.{doneRefusal, reported, step}
 use Rattle.rules.proofs.Accept.{taken, done-taken, number-none}
-use Rattle.rules.specs.Tested.{Taken}
+use Rattle.refusal.specs.Tests.{doneTest}
+use Rattle.refusal.proofs.Refusals.{done-test}
+use Rattle.calls.proofs.Requests.{Within-widest, bounds}
+use Rattle.calls.proofs.Flying.{some-flying}
 use Rattle.throttle.specs.Left.{found}
-use Rattle.throttle.proofs.Request.{bounds}
-use Rattle.throttle.proofs.Settled.{left-refused, left-done, some-flying}
+use Rattle.throttle.proofs.Settled.{left-refused, left-done}
 use borrow.Author.Needs.{needs}
 use Rattle.throttle.proofs.throttle_done.Statement.{statement}
 use Rattle.throttle.proofs.throttle_done.Tie as tie
 
-abbrev entry : tie.After-done-refusal → State
-entry c = let a = c .before .before .before .before .before .before .before .before .before .before .before .before .before .args in found (a .head .now) (a .counters .now) (a .ticks .now) (a .rows .now) (a .threads .now)
+-- the state that the call finds
+abbrev entry : tie.Start → State
+entry c = let a = c .args in found (a .head .now) (a .counters .now) (a .ticks .now) (a .rows .now) (a .threads .now)
 
-code-is : (c : tie.After-done-refusal) → c .done-refusal .result
-    ≡ refusalNumber (doneRefusal document01 (settingOf (c .before .before .before .before .before .before .before .before .before .before .before .before .before .args .setting .now)) (c .before .before .before .before .before .before .before .before .before .before .before .before .before .args .seeds .now) (entry c) (c .before .before .before .before .before .before .before .before .before .before .before .before .before .args .tick) (c .before .before .before .before .before .before .before .before .before .before .before .before .before .args .bank) (c .before .before .before .before .before .before .before .before .before .before .before .before .before .args .thread))
+abbrev s : tie.Start → Setting
+s c = settingOf (c .args .setting .now)
+
+wide : Within-widest limits01
+wide = record { threshold = omega arith; history = omega arith }
+
+-- the code is the number of the rules' refusal
+code-is : (c : tie.After-done-refusal) → let a = c .before .before .before .before .before .before .before .before .before .before .before .before .args in c .done-refusal .result ≡ refusalNumber (doneRefusal limits01 (s (c .before .before .before .before .before .before .before .before .before .before .before .before)) (a .seeds .now) (entry (c .before .before .before .before .before .before .before .before .before .before .before .before)) (a .tick) (a .bank) (a .thread))
 code-is c =
-    let e = c .before .before .before .before .before .before .before .load .ensures in
-    let h = c .before .before .before .before .before .load-head .ensures in
-    rw (e, h) at (c .done-refusal .ensures)
+    let a = c .before .before .before .before .before .before .before .before .before .before .before .before .args in
+    c .done-refusal .ensures
+    ∙ ap (λ m. refusalNumber (doneTest m (c .before .before .before .before .before .before .load .result) (a .seeds .now) (c .before .before .before .before .load-head .result) (length (a .counters .now)) (a .ticks .now) (length (a .rows .now)) (a .threads .now) (a .tick) (a .bank) (a .thread))) (c .before .before .before .narrow-limits .ensures)
+    ∙ ap₂ (λ x h. refusalNumber (doneTest limits01 x (a .seeds .now) h (length (a .counters .now)) (a .ticks .now) (length (a .rows .now)) (a .threads .now) (a .tick) (a .bank) (a .thread))) (c .before .before .before .before .before .before .load .ensures) (c .before .before .before .before .load-head .ensures)
+    ∙ ap refusalNumber (sym (done-test limits01 (s (c .before .before .before .before .before .before .before .before .before .before .before .before)) (a .seeds .now) (entry (c .before .before .before .before .before .before .before .before .before .before .before .before)) (a .tick) (a .bank) (a .thread)))
 
-abbrev held : tie.After-done-refusal → State
-held c = let a = c .before .before .before .before .before .before .before .before .before .before .before .before .before .args in state (c .before .before .before .before .before .load-head .result) (a .counters .now) (a .ticks .now) (a .rows .now) (a .threads .now)
-
--- the call is not refused, and one is in flight
-ok : (c : tie.Else1) → Taken document01 (c .before .before .before .before .before .before .before .before .load .result) (c .before .before .before .before .before .before .before .before .before .before .before .before .before .before .args .seeds .now) (held (c .before)) (c .before .before .before .before .before .before .before .before .before .before .before .before .before .before .args .tick) (c .before .before .before .before .before .before .before .before .before .before .before .before .before .before .args .bank) (c .before .before .before .before .before .before .before .before .before .before .before .before .before .before .args .thread)
-    × (1 ≤ getD (c .before .before .before .before .before .before .before .before .before .before .before .before .before .before .args .threads .now) (threadCell (c .before .before .before .before .before .before .before .before .load .result) (c .before .before .before .before .before .before .before .before .before .before .before .before .before .before .args .bank) (c .before .before .before .before .before .before .before .before .before .before .before .before .before .before .args .thread) 2) 0)
-ok c =
-    let a = c .before .before .before .before .before .before .before .before .before .before .before .before .before .before .args in
-    let r = done-taken document01 (c .before .before .before .before .before .before .before .before .load .result) (a .seeds .now) (held (c .before)) (a .tick) (a .bank) (a .thread) (number-none _ (sym (c .before .done-refusal .ensures) ∙ c .if1 .left)) in
-    (taken document01 (c .before .before .before .before .before .before .before .before .load .result) (a .seeds .now) (held (c .before)) (a .tick) (a .bank) (a .thread) (r .0), some-flying _ (r .1))
+free : (c : tie.Else1) → let a = c .before .before .before .before .before .before .before .before .before .before .before .before .before .args in doneRefusal limits01 (s (c .before .before .before .before .before .before .before .before .before .before .before .before .before)) (a .seeds .now) (entry (c .before .before .before .before .before .before .before .before .before .before .before .before .before)) (a .tick) (a .bank) (a .thread) ≡ none
+free c = number-none _ (sym (code-is (c .before)) ∙ c .if1 .left)
 
 load-requires : tie.Need-load-requires
 load-requires c κs = search needs
@@ -45,8 +50,11 @@ load-requires c κs = search needs
 load-head-requires : tie.Need-load-head-requires
 load-head-requires c κs = search needs
 
+narrow-limits-requires : tie.Need-narrow-limits-requires
+narrow-limits-requires c κs = search needs
+
 done-refusal-requires : tie.Need-done-refusal-requires
-done-refusal-requires c κs = search needs
+done-refusal-requires c κs = rw (c .before .before .narrow-limits .ensures) (omega arith)
 
 same-length : tie.Need-same-length
 same-length c = search needs
@@ -54,52 +62,42 @@ same-length c = search needs
 same-length-2 : tie.Need-same-length-2
 same-length-2 c = search needs
 
+returns : tie.Need-returns
+unfolding step
+returns c =
+    let a = c .before .before .before .before .before .before .before .before .before .before .before .before .before .args in
+    left-refused (doneRefusal limits01 (s (c .before .before .before .before .before .before .before .before .before .before .before .before .before)) (a .seeds .now) (entry (c .before .before .before .before .before .before .before .before .before .before .before .before .before)) (a .tick) (a .bank) (a .thread))
+    (reported (s (c .before .before .before .before .before .before .before .before .before .before .before .before .before)) (turned (s (c .before .before .before .before .before .before .before .before .before .before .before .before .before)) (entry (c .before .before .before .before .before .before .before .before .before .before .before .before .before)) (a .tick)) (a .bank) (a .thread)) (c .before .done-refusal .result)
+    [] (a .head .now) (a .counters .now) (a .ticks .now) (a .rows .now) (a .threads .now) (code-is (c .before)) (c .if1 .taken)
+
+done-requires : tie.Need-done-requires
+done-requires c κs =
+    let a = c .before .before .before .before .before .before .before .before .before .before .before .before .before .before .before .args in
+    let d = done-taken limits01 (s (c .before .before .before .before .before .before .before .before .before .before .before .before .before .before .before)) (a .seeds .now) (entry (c .before .before .before .before .before .before .before .before .before .before .before .before .before .before .before)) (a .tick) (a .bank) (a .thread) (free (c .before .before)) in
+    let k : Taken limits01 (s (c .before .before .before .before .before .before .before .before .before .before .before .before .before .before .before)) (a .seeds .now) (entry (c .before .before .before .before .before .before .before .before .before .before .before .before .before .before .before)) (a .tick) (a .bank) (a .thread) =
+    taken limits01 (s (c .before .before .before .before .before .before .before .before .before .before .before .before .before .before .before)) (a .seeds .now) (entry (c .before .before .before .before .before .before .before .before .before .before .before .before .before .before .before)) (a .tick) (a .bank) (a .thread) (d .0) in
+    rw (c .before .before .before .before .before .before .before .before .before .load .ensures, c .before .before .before .before .before .before .before .load-head .ensures) (bounds wide (k .setting), k .long .counters, k .long .threads, k .bank-in, k .thread-in, some-flying _ (d .1), k .later)
+
+store-head-requires : tie.Need-store-head-requires
+store-head-requires c κs = search needs
+
 same-length-3 : tie.Need-same-length-3
 same-length-3 c = search needs
 
 same-length-4 : tie.Need-same-length-4
 same-length-4 c = search needs
 
-returns : tie.Need-returns
-unfolding step
-returns c =
-    let a = c .before .before .before .before .before .before .before .before .before .before .before .before .before .before .args in
-    let st = entry (c .before) in
-    let s = settingOf (a .setting .now) in
-    left-refused (doneRefusal document01 s (a .seeds .now) st (a .tick) (a .bank) (a .thread))
-    (reported s (turned s st (a .tick)) (a .bank) (a .thread)) (c .before .done-refusal .result)
-    [] (a .head .now) (a .counters .now) (a .ticks .now) (a .rows .now) (a .threads .now) (code-is (c .before)) (c .if1 .taken)
-
-done-requires : tie.Need-done-requires
-done-requires c κs =
-    let k = ok (c .before .before) .0 in
-    (bounds (k .setting), k .long .counters, k .long .threads, k .bank-in, k .thread-in, ok (c .before .before) .1, k .later)
-
-store-head-requires : tie.Need-store-head-requires
-store-head-requires c κs = search needs
-
 same-length-5 : tie.Need-same-length-5
 same-length-5 c = search needs
 
-same-length-6 : tie.Need-same-length-6
-same-length-6 c = search needs
-
-same-length-7 : tie.Need-same-length-7
-same-length-7 c = search needs
-
-same-length-8 : tie.Need-same-length-8
-same-length-8 c = search needs
-
 returns-2 : tie.Need-returns-2
 returns-2 c =
-    let a = c .before .before .before .before .before .before .before .before .before .before .before .before .before .before .before .before .before .before .before .before .before .before .before .args in
-    let e = c .before .before .before .before .before .before .before .before .before .before .before .before .before .before .before .before .before .load .ensures in
-    let h = c .before .before .before .before .before .before .before .before .before .before .before .before .before .before .before .load-head .ensures in
+    let a = c .before .before .before .before .before .before .before .before .before .before .before .before .before .before .before .before .before .before .before .before .before .before .args in
     let q = c .before .before .before .before .before .before .done in
+    let e = rw (c .before .before .before .before .before .before .before .before .before .before .before .before .before .before .before .before .load .ensures, c .before .before .before .before .before .before .before .before .before .before .before .before .before .before .load-head .ensures) at (q .ensures) in
     rw (c .store-head .ensures)
-    (left-done (settingOf (a .setting .now)) (a .seeds .now) (a .head .now) (a .counters .now) (a .ticks .now) (a .rows .now) (a .threads .now)
-    (a .tick) (a .bank) (a .thread) (sym (code-is (c .before .before .before .before .before .before .before .before .before .before)) ∙ c .before .before .before .before .before .before .before .before .before .if1 .left) (q .result) (q .last .1 .1 .0) (q .last .1 .1 .1 .0)
-    (rw h at (q .ensures .0)) (rw (e, h) at (q .ensures .1)) (rw (e, h) at (q .ensures .2)))
+    (left-done (s (c .before .before .before .before .before .before .before .before .before .before .before .before .before .before .before .before .before .before .before .before .before .before)) (a .seeds .now) (a .head .now) (a .counters .now) (a .ticks .now) (a .rows .now) (a .threads .now)
+    (a .tick) (a .bank) (a .thread) (ap refusalNumber (free (c .before .before .before .before .before .before .before .before .before))) (q .result) (q .last .1 .1 .0) (q .last .1 .1 .1 .0) (e .0) (e .1) (e .2))
 
 pub throttle-done-spec : {M : Type 1} → statement M
 throttle-done-spec =
@@ -107,16 +105,14 @@ throttle-done-spec =
     (tie.spec
     load-requires
     load-head-requires
+    narrow-limits-requires
     done-refusal-requires
     same-length
     same-length-2
-    same-length-3
-    same-length-4
     returns
     done-requires
     store-head-requires
+    same-length-3
+    same-length-4
     same-length-5
-    same-length-6
-    same-length-7
-    same-length-8
     returns-2)

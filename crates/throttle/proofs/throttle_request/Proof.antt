@@ -1,28 +1,42 @@
 -- `throttle_request` is refused as the rules say, or is the rules' request.
-use mathlib.Core.Path.{_≡_, sym, _∙_}
-use Rattle.rules.specs.Answers.{refusalNumber}
+use mathlib.Core.Path.{_≡_, sym, ap, ap₂, _∙_}
+use native.Mathlib.Omega.{arith}
+use lib.ListN.{length}
+use Rattle.rules.specs.declared.Setting.{Setting}
+use Rattle.rules.specs.Answers.{none, refusalNumber}
 use Rattle.rules.specs.Setting.{settingOf}
 use Rattle.rules.specs.State.{State, state}
 use Rattle.rules.specs.Clock.{turned}
 use Rattle.rules.specs.Hash.{places}
-use Rattle.rules.specs.Policy.{document01}
+use Rattle.rules.specs.Policy.{limits01, narrow}
 use Rattle.rules.specs.Calls.{callRefusal, requested, step}
 use Rattle.rules.proofs.Accept.{number-none}
+use Rattle.refusal.specs.Tests.{callTest}
+use Rattle.refusal.proofs.Refusals.{call-test}
 use Rattle.throttle.specs.Left.{found}
 use Rattle.throttle.proofs.Settled.{left-refused, left-request}
 use borrow.Author.Needs.{needs}
 use Rattle.throttle.proofs.throttle_request.Statement.{statement}
 use Rattle.throttle.proofs.throttle_request.Tie as tie
 
-abbrev entry : tie.After-call-refusal → State
-entry c = let a = c .before .before .before .before .before .before .before .before .before .before .before .before .before .args in found (a .head .now) (a .counters .now) (a .ticks .now) (a .rows .now) (a .threads .now)
+-- the state that the call finds
+abbrev entry : tie.Start → State
+entry c = let a = c .args in found (a .head .now) (a .counters .now) (a .ticks .now) (a .rows .now) (a .threads .now)
 
-code-is : (c : tie.After-call-refusal) → c .call-refusal .result
-    ≡ refusalNumber (callRefusal document01 (settingOf (c .before .before .before .before .before .before .before .before .before .before .before .before .before .args .setting .now)) (c .before .before .before .before .before .before .before .before .before .before .before .before .before .args .seeds .now) (entry c) (c .before .before .before .before .before .before .before .before .before .before .before .before .before .args .tick) (c .before .before .before .before .before .before .before .before .before .before .before .before .before .args .bank) (c .before .before .before .before .before .before .before .before .before .before .before .before .before .args .thread))
+abbrev s : tie.Start → Setting
+s c = settingOf (c .args .setting .now)
+
+-- the code is the number of the rules' refusal
+code-is : (c : tie.After-call-refusal) → let a = c .before .before .before .before .before .before .before .before .before .before .before .args in c .call-refusal .result ≡ refusalNumber (callRefusal limits01 (s (c .before .before .before .before .before .before .before .before .before .before .before)) (a .seeds .now) (entry (c .before .before .before .before .before .before .before .before .before .before .before)) (a .tick) (a .bank) (a .thread))
 code-is c =
-    let e = c .before .before .before .before .before .before .before .load .ensures in
-    let h = c .before .before .before .before .before .load-head .ensures in
-    rw (e, h) at (c .call-refusal .ensures)
+    let a = c .before .before .before .before .before .before .before .before .before .before .before .args in
+    c .call-refusal .ensures
+    ∙ ap (λ m. refusalNumber (callTest m (c .before .before .before .before .before .load .result) (a .seeds .now) (c .before .before .before .load-head .result) (length (a .counters .now)) (a .ticks .now) (length (a .rows .now)) (length (a .threads .now)) (a .tick) (a .bank) (a .thread))) (c .before .before .narrow-limits .ensures)
+    ∙ ap₂ (λ x h. refusalNumber (callTest limits01 x (a .seeds .now) h (length (a .counters .now)) (a .ticks .now) (length (a .rows .now)) (length (a .threads .now)) (a .tick) (a .bank) (a .thread))) (c .before .before .before .before .before .load .ensures) (c .before .before .before .load-head .ensures)
+    ∙ ap refusalNumber (sym (call-test limits01 (s (c .before .before .before .before .before .before .before .before .before .before .before)) (a .seeds .now) (entry (c .before .before .before .before .before .before .before .before .before .before .before)) (a .tick) (a .bank) (a .thread)))
+
+taken : (c : tie.Else1) → let a = c .before .before .before .before .before .before .before .before .before .before .before .before .args in callRefusal limits01 (s (c .before .before .before .before .before .before .before .before .before .before .before .before)) (a .seeds .now) (entry (c .before .before .before .before .before .before .before .before .before .before .before .before)) (a .tick) (a .bank) (a .thread) ≡ none
+taken c = number-none _ (sym (code-is (c .before)) ∙ c .if1 .left)
 
 load-requires : tie.Need-load-requires
 load-requires c κs = search needs
@@ -30,33 +44,25 @@ load-requires c κs = search needs
 load-head-requires : tie.Need-load-head-requires
 load-head-requires c κs = search needs
 
+narrow-limits-requires : tie.Need-narrow-limits-requires
+narrow-limits-requires c κs = search needs
+
 call-refusal-requires : tie.Need-call-refusal-requires
-call-refusal-requires c κs = search needs
+call-refusal-requires c κs = rw (c .before .narrow-limits .ensures) (omega arith)
 
 same-length : tie.Need-same-length
 same-length c = search needs
 
-same-length-2 : tie.Need-same-length-2
-same-length-2 c = search needs
-
-same-length-3 : tie.Need-same-length-3
-same-length-3 c = search needs
-
-same-length-4 : tie.Need-same-length-4
-same-length-4 c = search needs
-
 returns : tie.Need-returns
 unfolding step
 returns c =
-    let a = c .before .before .before .before .before .before .before .before .before .before .before .before .before .before .args in
-    let st = entry (c .before) in
-    let s = settingOf (a .setting .now) in
-    left-refused (callRefusal document01 s (a .seeds .now) st (a .tick) (a .bank) (a .thread))
-    (requested document01 s (λ f. places (a .seeds .now) (a .row)) (turned s st (a .tick)) (a .bank) (a .thread) (a .row)) (c .before .call-refusal .result)
+    let a = c .before .before .before .before .before .before .before .before .before .before .before .before .args in
+    left-refused (callRefusal limits01 (s (c .before .before .before .before .before .before .before .before .before .before .before .before)) (a .seeds .now) (entry (c .before .before .before .before .before .before .before .before .before .before .before .before)) (a .tick) (a .bank) (a .thread))
+    (requested narrow (s (c .before .before .before .before .before .before .before .before .before .before .before .before)) (λ f. places (a .seeds .now) (a .row)) (turned (s (c .before .before .before .before .before .before .before .before .before .before .before .before)) (entry (c .before .before .before .before .before .before .before .before .before .before .before .before)) (a .tick)) (a .bank) (a .thread) (a .row)) (c .before .call-refusal .result)
     (a .out .now) (a .head .now) (a .counters .now) (a .ticks .now) (a .rows .now) (a .threads .now) (code-is (c .before)) (c .if1 .taken)
 
 request-requires : tie.Need-request-requires
-request-requires c κs = number-none _ (sym (c .before .before .before .before .before .call-refusal .ensures) ∙ c .before .before .before .before .if1 .left)
+request-requires c κs = rw (c .before .before .before .before .before .before .before .before .before .before .load .ensures, c .before .before .before .before .before .before .before .before .load-head .ensures) (taken (c .before .before .before .before))
 
 store-head-requires : tie.Need-store-head-requires
 store-head-requires c κs = search needs
@@ -67,28 +73,26 @@ answer-number-requires c κs = search needs
 answer-wait-requires : tie.Need-answer-wait-requires
 answer-wait-requires c κs = search needs
 
+same-length-2 : tie.Need-same-length-2
+same-length-2 c = search needs
+
+same-length-3 : tie.Need-same-length-3
+same-length-3 c = search needs
+
+same-length-4 : tie.Need-same-length-4
+same-length-4 c = search needs
+
 same-length-5 : tie.Need-same-length-5
 same-length-5 c = search needs
 
-same-length-6 : tie.Need-same-length-6
-same-length-6 c = search needs
-
-same-length-7 : tie.Need-same-length-7
-same-length-7 c = search needs
-
-same-length-8 : tie.Need-same-length-8
-same-length-8 c = search needs
-
 returns-2 : tie.Need-returns-2
 returns-2 c =
-    let a = c .before .before .before .before .before .before .before .before .before .before .before .before .before .before .before .before .before .before .before .before .before .before .before .before .before .before .before .before .before .before .before .before .before .args in
-    let e = c .before .before .before .before .before .before .before .before .before .before .before .before .before .before .before .before .before .before .before .before .before .before .before .before .before .before .before .load .ensures in
-    let h = c .before .before .before .before .before .before .before .before .before .before .before .before .before .before .before .before .before .before .before .before .before .before .before .before .before .load-head .ensures in
+    let a = c .before .before .before .before .before .before .before .before .before .before .before .before .before .before .before .before .before .before .before .before .before .before .before .before .before .before .before .before .before .before .before .args in
     let q = c .before .before .before .before .before .before .before .before .before .before .before .before .before .before .request in
     let z = state (q .result .head) (q .last .1 .1 .1 .0) (q .last .1 .1 .1 .1 .0) (q .last .1 .1 .1 .1 .1 .0) (q .last .1 .1 .1 .1 .1 .1 .0) in
     rw (c .before .before .before .store-head .ensures, c .before .before .answer-number .ensures, c .before .answer-wait .ensures)
-    (left-request (settingOf (a .setting .now)) (a .seeds .now) (a .head .now) (a .counters .now) (a .ticks .now) (a .rows .now) (a .threads .now)
-    (a .tick) (a .bank) (a .thread) (a .row) (a .out .now) (sym (code-is (c .before .before .before .before .before .before .before .before .before .before .before .before .before .before .before .before .before .before .before .before)) ∙ c .before .before .before .before .before .before .before .before .before .before .before .before .before .before .before .before .before .before .before .if1 .left) (q .result .answer) z (rw (e, h) at (q .ensures .0)))
+    (left-request (s (c .before .before .before .before .before .before .before .before .before .before .before .before .before .before .before .before .before .before .before .before .before .before .before .before .before .before .before .before .before .before .before)) (a .seeds .now) (a .head .now) (a .counters .now) (a .ticks .now) (a .rows .now) (a .threads .now)
+    (a .tick) (a .bank) (a .thread) (a .row) (a .out .now) (ap refusalNumber (taken (c .before .before .before .before .before .before .before .before .before .before .before .before .before .before .before .before .before .before .before))) (q .result .answer) z (rw (c .before .before .before .before .before .before .before .before .before .before .before .before .before .before .before .before .before .before .before .before .before .before .before .before .before .load .ensures, c .before .before .before .before .before .before .before .before .before .before .before .before .before .before .before .before .before .before .before .before .before .before .before .load-head .ensures) at (q .ensures .0)))
 
 pub throttle-request-spec : {M : Type 1} → statement M
 throttle-request-spec =
@@ -96,18 +100,16 @@ throttle-request-spec =
     (tie.spec
     load-requires
     load-head-requires
+    narrow-limits-requires
     call-refusal-requires
     same-length
-    same-length-2
-    same-length-3
-    same-length-4
     returns
     request-requires
     store-head-requires
     answer-number-requires
     answer-wait-requires
+    same-length-2
+    same-length-3
+    same-length-4
     same-length-5
-    same-length-6
-    same-length-7
-    same-length-8
     returns-2)

@@ -1,76 +1,69 @@
 -- `throttle_setup` is refused as the rules say, or clears the head and the used parts.
-use mathlib.Core.Path.{_≡_, sym, ap, _∙_}
+use mathlib.Core.Path.{_≡_, sym, ap, ap₂, _∙_}
 use mathlib.Core.List.{[]}
 use native.Mathlib.Omega.{arith}
+use lib.ListN.{length}
+use Rattle.rules.specs.declared.Setting.{Setting}
 use Rattle.rules.specs.Answers.{refusalNumber}
 use Rattle.rules.specs.Setting.{settingOf}
-use Rattle.rules.specs.State.{State, fresh}
-use Rattle.rules.specs.Policy.{document01}
-use Rattle.rules.specs.Calls.{finished, setup, setupRefusal}
-use Rattle.rules.proofs.Accept.{set-up, number-none, cells-small}
+use Rattle.rules.specs.State.{State, state, fresh}
+use Rattle.rules.specs.Policy.{limits01}
 use Rattle.rules.specs.Tested.{SetUp}
-use Rattle.throttle.specs.Left.{found, outcome}
+use Rattle.rules.specs.Calls.{finished, outcome, setup, setupRefusal}
+use Rattle.rules.proofs.Accept.{set-up, number-none}
+use Rattle.refusal.specs.Tests.{setupTest}
 use Rattle.refusal.proofs.Refusals.{setup-test}
+use Rattle.calls.proofs.Requests.{Within-widest, bounds}
+use Rattle.throttle.specs.Left.{found}
 use Rattle.throttle.proofs.Settled.{left-refused, left-setup}
 use borrow.Author.Needs.{needs}
 use Rattle.throttle.proofs.throttle_setup.Statement.{statement}
 use Rattle.throttle.proofs.throttle_setup.Tie as tie
 
-abbrev entry : tie.After-setup-refusal → State
-entry c = let a = c .before .before .before .before .before .before .before .args in found (a .head .now) (a .counters .now) (a .ticks .now) (a .rows .now) (a .threads .now)
+-- the state that the call finds
+abbrev entry : tie.Start → State
+entry c = let a = c .args in found (a .head .now) (a .counters .now) (a .ticks .now) (a .rows .now) (a .threads .now)
+
+abbrev s : tie.Start → Setting
+s c = settingOf (c .args .setting .now)
+
+wide : Within-widest limits01
+wide = record { threshold = omega arith; history = omega arith }
 
 -- the code is the number of the rules' refusal
-code-is : (c : tie.After-setup-refusal) → c .setup-refusal .result ≡ refusalNumber (setupRefusal document01 (settingOf (c .before .before .before .before .before .before .before .args .setting .now)) (c .before .before .before .before .before .before .before .args .seeds .now) (entry c))
+code-is : (c : tie.After-setup-refusal) → c .setup-refusal .result ≡ refusalNumber (setupRefusal limits01 (s (c .before .before .before .before .before .before .before .before)) (c .before .before .before .before .before .before .before .before .args .seeds .now) (entry (c .before .before .before .before .before .before .before .before)))
 code-is c =
-    let e = c .before .load .ensures in
-    (rw e at (c .setup-refusal .ensures)) ∙ ap refusalNumber (setup-test (settingOf (c .before .before .before .before .before .before .before .args .setting .now)) (c .before .before .before .before .before .before .before .args .seeds .now) (entry c))
+    let a = c .before .before .before .before .before .before .before .before .args in
+    c .setup-refusal .ensures
+    ∙ ap₂ (λ m x. refusalNumber (setupTest m x (a .seeds .now) (length (a .counters .now)) (length (a .ticks .now)) (length (a .rows .now)) (length (a .threads .now)))) (c .before .narrow-limits .ensures) (c .before .before .load .ensures)
+    ∙ ap refusalNumber (sym (setup-test limits01 (s (c .before .before .before .before .before .before .before .before)) (a .seeds .now) (entry (c .before .before .before .before .before .before .before .before))))
 
-ok : (c : tie.Else1) → SetUp document01 (c .before .before .load .result) (c .before .before .before .before .before .before .before .before .args .seeds .now) (entry (c .before))
-ok c =
-    let e = c .before .before .load .ensures in
-    rw e (set-up document01 (settingOf (c .before .before .before .before .before .before .before .before .args .setting .now)) (c .before .before .before .before .before .before .before .before .args .seeds .now) (entry (c .before)) (number-none _ (sym (code-is (c .before)) ∙ c .if1 .left)))
+ok : (c : tie.Else1) → SetUp limits01 (c .before .before .before .load .result) (c .before .before .before .before .before .before .before .before .before .args .seeds .now) (entry (c .before .before .before .before .before .before .before .before .before))
+ok c = rw (c .before .before .before .load .ensures) (set-up limits01 (s (c .before .before .before .before .before .before .before .before .before)) (c .before .before .before .before .before .before .before .before .before .args .seeds .now) (entry (c .before .before .before .before .before .before .before .before .before)) (number-none _ (sym (code-is (c .before)) ∙ c .if1 .left)))
 
 load-requires : tie.Need-load-requires
 load-requires c κs = search needs
 
+narrow-limits-requires : tie.Need-narrow-limits-requires
+narrow-limits-requires c κs = search needs
+
 setup-refusal-requires : tie.Need-setup-refusal-requires
-setup-refusal-requires c κs = search needs
+setup-refusal-requires c κs = rw (c .narrow-limits .ensures) (omega arith)
 
 returns : tie.Need-returns
 unfolding setup
 returns c =
-    let a = c .before .before .before .before .before .before .before .before .args in
-    left-refused (setupRefusal document01 (settingOf (a .setting .now)) (a .seeds .now) (entry (c .before)))
-    (outcome finished (fresh (settingOf (a .setting .now)) (entry (c .before)))) (c .before .setup-refusal .result)
+    let a = c .before .before .before .before .before .before .before .before .before .args in
+    left-refused (setupRefusal limits01 (s (c .before .before .before .before .before .before .before .before .before)) (a .seeds .now) (entry (c .before .before .before .before .before .before .before .before .before))) (outcome finished (fresh (s (c .before .before .before .before .before .before .before .before .before)) (entry (c .before .before .before .before .before .before .before .before .before)))) (c .before .setup-refusal .result)
     [] (a .head .now) (a .counters .now) (a .ticks .now) (a .rows .now) (a .threads .now) (code-is (c .before)) (c .if1 .taken)
 
-mul-clear : tie.Need-mul-clear
-mul-clear c = omega (arith, ok (c .before .before) .setting .ranges .banks-high)
+fresh-requires : tie.Need-fresh-requires
+fresh-requires c κs =
+    let k = ok (c .before .before .before .before) in
+    (bounds wide (k .setting), record { counters = k .long .counters; ticks = k .long .ticks; rows = k .long .rows; threads = k .long .threads })
 
-clear-requires : tie.Need-clear-requires
-clear-requires c κs = ok (c .before .before) .long .counters
-
-history-length-requires : tie.Need-history-length-requires
-history-length-requires c κs = let k = ok (c .before .before .before .before .before .before .before) .setting in (k .ranges .tfaw-low, k .ranges .tfaw-high, k .ranges .td-high)
-
-clear-requires-2 : tie.Need-clear-requires-2
-clear-requires-2 c κs =
-    let e = c .history-length .ensures in
-    let l = ok (c .before .before .before .before .before .before .before .before) .long in
-    rw e (l .ticks, l .rows)
-
-mul-clear-2 : tie.Need-mul-clear-2
-mul-clear-2 c =
-    let k = ok (c .before .before .before .before .before .before .before .before .before .before .before .before .before .before .before) .setting in
-    omega (arith, cells-small (c .before .before .before .before .before .before .before .before .before .before .before .before .before .before .before .before .before .load .result .banks) (c .before .before .before .before .before .before .before .before .before .before .before .before .before .before .before .before .before .load .result .threads) (k .ranges .banks-high) (k .ranges .threads-high))
-
-mul-clear-3 : tie.Need-mul-clear-3
-mul-clear-3 c =
-    let k = ok (c .before .before .before .before .before .before .before .before .before .before .before .before .before .before .before) .setting in
-    omega (arith, cells-small (c .before .before .before .before .before .before .before .before .before .before .before .before .before .before .before .before .before .load .result .banks) (c .before .before .before .before .before .before .before .before .before .before .before .before .before .before .before .before .before .load .result .threads) (k .ranges .banks-high) (k .ranges .threads-high))
-
-clear-requires-3 : tie.Need-clear-requires-3
-clear-requires-3 c κs = ok (c .before .before .before .before .before .before .before .before .before .before .before .before .before .before .before) .long .threads
+store-head-requires : tie.Need-store-head-requires
+store-head-requires c κs = search needs
 
 same-length : tie.Need-same-length
 same-length c = search needs
@@ -85,28 +78,25 @@ same-length-4 : tie.Need-same-length-4
 same-length-4 c = search needs
 
 returns-2 : tie.Need-returns-2
+unfolding fresh
 returns-2 c =
-    let a = c .before .before .before .before .before .before .before .before .before .before .before .before .before .before .before .before .before .before .before .before .before .before .before .before .before .before .before .args in
-    let e = c .before .before .before .before .before .before .before .before .before .before .before .before .before .before .before .before .before .before .before .before .before .load .ensures in
-    let h = c .before .before .before .before .before .before .before .before .before .before .before .history-length .ensures in
-    left-setup (settingOf (a .setting .now)) (a .seeds .now) (a .head .now) (a .counters .now) (a .ticks .now) (a .rows .now) (a .threads .now)
-    (sym (code-is (c .before .before .before .before .before .before .before .before .before .before .before .before .before .before .before .before .before .before .before .before)) ∙ c .before .before .before .before .before .before .before .before .before .before .before .before .before .before .before .before .before .before .before .if1 .left) (c .before .before .before .before .before .before .before .before .before .before .before .before .before .before .before .before .clear .last .0) (c .before .before .before .before .before .before .before .before .before .before .clear2 .last .0) (c .before .before .before .before .before .before .before .before .before .before .clear2 .last .1 .0) (c .before .before .before .clear3 .last .0)
-    (rw e at (c .before .before .before .before .before .before .before .before .before .before .before .before .before .before .before .before .clear .ensures)) (rw (h, e) at (c .before .before .before .before .before .before .before .before .before .before .clear2 .ensures .0)) (rw (h, e) at (c .before .before .before .before .before .before .before .before .before .before .clear2 .ensures .1)) (rw e at (c .before .before .before .clear3 .ensures))
+    let a = c .before .before .before .before .before .before .before .before .before .before .before .before .before .before .before .before .before .before .before .before .before .before .before .before .args in
+    let q = c .before .before .before .before .before .before .before .before .before .before .fresh .last in
+    let z = state (c .before .before .before .before .before .before .before .before .before .before .fresh .result) (q .1 .0) (q .1 .1 .0) (q .1 .1 .1 .0) (q .1 .1 .1 .1 .0) in
+    rw (c .store-head .ensures)
+    (left-setup (s (c .before .before .before .before .before .before .before .before .before .before .before .before .before .before .before .before .before .before .before .before .before .before .before .before)) (a .seeds .now) (a .head .now) (a .counters .now) (a .ticks .now) (a .rows .now) (a .threads .now)
+    (sym (code-is (c .before .before .before .before .before .before .before .before .before .before .before .before .before .before .before .before)) ∙ c .before .before .before .before .before .before .before .before .before .before .before .before .before .before .before .if1 .left) z (rw (c .before .before .before .before .before .before .before .before .before .before .before .before .before .before .before .before .before .before .load .ensures) at (c .before .before .before .before .before .before .before .before .before .before .fresh .ensures)))
 
 pub throttle-setup-spec : {M : Type 1} → statement M
 throttle-setup-spec =
     tie.close
     (tie.spec
     load-requires
+    narrow-limits-requires
     setup-refusal-requires
     returns
-    mul-clear
-    clear-requires
-    history-length-requires
-    clear-requires-2
-    mul-clear-2
-    mul-clear-3
-    clear-requires-3
+    fresh-requires
+    store-head-requires
     same-length
     same-length-2
     same-length-3

@@ -3,8 +3,8 @@ use Prim.Native.Nat.{_+_, _-_, _≤_}
 use mathlib.Core.Path.{_≡_, sym, _∙_}
 use native.Mathlib.Omega.{arith}
 use lib.Seq.{sets}
-use Rattle.log.specs.Bytes.{bytesOf}
-use Rattle.log.proofs.Numbers.{put-step}
+use Rattle.log_format.specs.Bytes.{bytesOf}
+use Rattle.log_format.proofs.Numbers.{put-step}
 use borrow.Author.Needs.{needs}
 use Rattle.log.proofs.bytes.put.Statement.{statement}
 use Rattle.log.proofs.bytes.put.Tie as tie

@@ -1,6 +1,6 @@
 -- `encode::frame`: head, zeros and sums, one after another.
 use mathlib.Core.Path.{_∙_}
-use Rattle.log.specs.Encode.{framed}
+use Rattle.log_format.specs.Encode.{framed}
 use borrow.Author.Needs.{needs}
 use Rattle.log.proofs.encode.frame.Statement.{statement}
 use Rattle.log.proofs.encode.frame.Tie as tie

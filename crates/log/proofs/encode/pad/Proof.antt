@@ -4,8 +4,8 @@ use mathlib.Core.Path.{_≡_, refl, sym, _∙_}
 use native.Mathlib.Omega.{arith}
 use lib.ListN.{replicate}
 use lib.Seq.{sets}
-use Rattle.log.specs.Encode.{padded}
-use Rattle.log.proofs.Stores.{pad-step}
+use Rattle.log_format.specs.Encode.{padded}
+use Rattle.log_format.proofs.Stores.{pad-step}
 use borrow.Author.Needs.{needs}
 use Rattle.log.proofs.encode.pad.Statement.{statement}
 use Rattle.log.proofs.encode.pad.Tie as tie

@@ -1,6 +1,6 @@
 -- `encode::put_head`: three runs of stores, one after another.
 use mathlib.Core.Path.{_∙_}
-use Rattle.log.proofs.Stores.{head-stores}
+use Rattle.log_format.proofs.Stores.{head-stores}
 use borrow.Author.Needs.{needs}
 use Rattle.log.proofs.encode.put_head.Statement.{statement}
 use Rattle.log.proofs.encode.put_head.Tie as tie

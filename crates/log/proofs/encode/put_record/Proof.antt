@@ -1,8 +1,8 @@
 -- `encode::put_record`: eight runs of stores, one after another.
 use mathlib.Core.Path.{_∙_}
-use Rattle.log.specs.Contents.{recordAt}
-use Rattle.log.specs.Encode.{putRecord}
-use Rattle.log.proofs.Stores.{record-stores}
+use Rattle.log_format.specs.Contents.{recordAt}
+use Rattle.log_format.specs.Encode.{putRecord}
+use Rattle.log_format.proofs.Stores.{record-stores}
 use borrow.Author.Needs.{needs}
 use Rattle.log.proofs.encode.put_record.Statement.{statement}
 use Rattle.log.proofs.encode.put_record.Tie as tie

@@ -1,7 +1,7 @@
 -- `encode::put_sums`: the remainders of both sums, stored one after the other.
 use mathlib.Core.Path.{refl, sym, _∙_}
-use Rattle.log.specs.Encode.{summed}
-use Rattle.log.proofs.Stores.{sets-number}
+use Rattle.log_format.specs.Encode.{summed}
+use Rattle.log_format.proofs.Stores.{sets-number}
 use borrow.Author.Needs.{needs}
 use Rattle.log.proofs.encode.put_sums.Statement.{statement}
 use Rattle.log.proofs.encode.put_sums.Tie as tie

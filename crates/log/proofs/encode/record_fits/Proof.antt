@@ -1,5 +1,5 @@
 -- `encode::record_fits`: the tests of the definition, in its order.
-use Rattle.log.specs.Encode.{recordFits}
+use Rattle.log_format.specs.Encode.{recordFits}
 use borrow.Author.Needs.{needs}
 use Rattle.log.proofs.encode.record_fits.Statement.{statement}
 use Rattle.log.proofs.encode.record_fits.Tie as tie

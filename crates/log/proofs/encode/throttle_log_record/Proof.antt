@@ -1,8 +1,8 @@
 -- `encode::throttle_log_record`: refused with nothing stored, or the record put.
 use mathlib.Core.Path.{sym, _∙_}
 use borrow.Author.Tests.{not-true, not-false}
-use Rattle.log.specs.Encode.{recordWritten}
-use Rattle.log.proofs.Fits.{fits-place}
+use Rattle.log_format.specs.Encode.{recordWritten}
+use Rattle.log_format.proofs.Fits.{fits-place}
 use borrow.Author.Needs.{needs}
 use Rattle.log.proofs.encode.throttle_log_record.Statement.{statement}
 use Rattle.log.proofs.encode.throttle_log_record.Tie as tie

@@ -3,8 +3,8 @@ use mathlib.Core.Path.{_≡_, sym, _∙_}
 use mathlib.Core.Bool.{true}
 use native.Mathlib.Omega.{arith}
 use borrow.Author.Tests.{not-true, not-false}
-use Rattle.log.specs.Encode.{sealFits, sealWritten}
-use Rattle.log.proofs.Fits.{seal-count}
+use Rattle.log_format.specs.Encode.{sealFits, sealWritten}
+use Rattle.log_format.proofs.Fits.{seal-count}
 use borrow.Author.Needs.{needs}
 use Rattle.log.proofs.encode.throttle_log_seal.Statement.{statement}
 use Rattle.log.proofs.encode.throttle_log_seal.Tie as tie

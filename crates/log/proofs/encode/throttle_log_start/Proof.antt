@@ -2,8 +2,8 @@
 use mathlib.Core.Path.{_≡_, sym, _∙_}
 use mathlib.Core.Bool.{true}
 use borrow.Author.Tests.{not-true, not-false}
-use Rattle.log.specs.Encode.{startFits, putStart, startBlock, startWritten}
-use Rattle.log.proofs.Fits.{start-seeds}
+use Rattle.log_format.specs.Encode.{startFits, putStart, startBlock, startWritten}
+use Rattle.log_format.proofs.Fits.{start-seeds}
 use borrow.Author.Needs.{needs}
 use Rattle.log.proofs.encode.throttle_log_start.Statement.{statement}
 use Rattle.log.proofs.encode.throttle_log_start.Tie as tie

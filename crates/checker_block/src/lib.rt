@@ -1,0 +1,201 @@
+// A block of a log: whether it is sound, and then its setting or its records. The judging of a record, the reading of a block and the test
+// of a setting are called only through their contracts, and every step is proved to be the one of the log's definition of the verdict.
+use judge::After;
+use judge::Progress;
+use judge::Report;
+use judge::entry::judge_record;
+use rules::Head;
+use rules::Setting;
+ghost use mathlib.Core.Path.{_≡_};
+ghost use Prim.Native.Nat.{_^_, _≤_, _<_};
+ghost use Rattle.rules.specs.Answers.{none};
+ghost use Rattle.rules.specs.Setting.{settingRefusal};
+ghost use Rattle.rules.specs.State.{freshHead, state};
+ghost use Rattle.rules.specs.Policy.{limits01};
+ghost use Rattle.rules.specs.Tested.{Sound};
+ghost use Rattle.log_format.specs.Contents.{countIn, entriesIn};
+ghost use Rattle.log_format.specs.Verdict.{memory, judgeRecords, judgeStart, judgeLater, judgeBlock};
+ghost use Rattle.judge.specs.Follow.{running, Room, Judged};
+ghost use Rattle.checker_block.specs.Blocks.{readSoFar, Ready, JudgedBlock};
+
+// A log that is read so far: the progress, the setting and the seeds of block 0, and the head of the model. The caller lends the buffers.
+pub struct Reading {
+    pub progress: Progress,
+    pub setting: Setting,
+    pub seeds: [u16; 64],
+    pub head: Head,
+}
+
+// After a block: the log is over with this report, or it goes on from here.
+pub struct Next {
+    pub over: bool,
+    pub report: Report,
+    pub reading: Reading,
+}
+
+// The records of a block, up to the first event.
+fn judge_records(
+    s: Setting,
+    seeds: &[u16],
+    h: Head,
+    counters: &mut [u16],
+    ticks: &mut [u64],
+    rows: &mut [u32],
+    threads: &mut [u32],
+    block: &[u8; 512],
+    p: Progress,
+) -> After
+    requires { ⌜ (settingRefusal limits01 s (now seeds) ≡ none) × Sound s (state h (now counters) (now ticks) (now rows) (now threads)) × Room p 20 × (countIn (now block) ≤ 20) ⌝ }
+    ensures { λ r. ⌜ Judged s (now (seeds .entry)) p 20 r (state (r .head) (now (counters .exit)) (now (ticks .exit)) (now (rows .exit)) (now (threads .exit))) (judgeRecords (running p s (now (seeds .entry)) (state h (now (counters .entry)) (now (ticks .entry)) (now (rows .entry)) (now (threads .entry)))) (entriesIn (now (block .entry)))) ⌝ }
+{
+    let n = log_read::contents::count(block) as usize;
+    let mut progress = p;
+    let mut head = h;
+    let mut k: usize = 0;
+    while k < n {
+        let e = log_read::contents::entry_at(block, k);
+        let r = judge_record(s, seeds, head, counters, ticks, rows, threads, progress, e);
+        if r.over {
+            return r;
+        }
+        let counted = r.progress;
+        let left = r.head;
+        progress = counted;
+        head = left;
+        k += 1;
+    }
+    After {
+        over: false,
+        report: Report::Agrees {
+            records: progress.records,
+            opened: progress.opened,
+        },
+        progress,
+        head,
+    }
+}
+
+// A later block: its records, none of which is counted yet.
+fn judge_later(
+    x: Reading,
+    counters: &mut [u16],
+    ticks: &mut [u64],
+    rows: &mut [u32],
+    threads: &mut [u32],
+    block: &[u8; 512],
+) -> Next
+    requires { ⌜ Ready (readSoFar x (now counters) (now ticks) (now rows) (now threads)) × (1 ≤ x .progress .blocks) × (x .progress .blocks < 2 ^ 32) × (countIn (now block) ≤ 20) ⌝ }
+    ensures { λ r. ⌜ JudgedBlock (x .progress .blocks) (r .over) (r .report) (readSoFar (r .reading) (now (counters .exit)) (now (ticks .exit)) (now (rows .exit)) (now (threads .exit))) (judgeLater (readSoFar x (now (counters .entry)) (now (ticks .entry)) (now (rows .entry)) (now (threads .entry))) (now (block .entry))) ⌝ }
+{
+    let p = x.progress;
+    let setting = x.setting;
+    let seeds = x.seeds;
+    let h = x.head;
+    let none = Progress {
+        blocks: p.blocks,
+        records: p.records,
+        opened: p.opened,
+        last: 0,
+    };
+    let r = judge_records(
+        setting,
+        &seeds,
+        h,
+        counters,
+        ticks,
+        rows,
+        threads,
+        block,
+        none,
+    );
+    let q = r.progress;
+    let report = r.report;
+    let head = r.head;
+    let progress = Progress {
+        blocks: p.blocks + 1,
+        records: q.records,
+        opened: q.opened,
+        last: q.last,
+    };
+    Next {
+        over: r.over,
+        report,
+        reading: Reading {
+            progress,
+            setting,
+            seeds,
+            head,
+        },
+    }
+}
+
+// The head after set-up.
+pub fn fresh_head() -> Head
+    ensures { λ r. ⌜ r ≡ freshHead ⌝ }
+{
+    Head {
+        last: 0,
+        next: 0,
+        bank: [0; 16],
+        rank: [0; 4],
+    }
+}
+
+// Block 0: its setting and seeds. Set-up leaves the memory of zeros as it is.
+fn judge_start(block: &[u8; 512]) -> Next
+    ensures { λ r. ⌜ (r .reading .head ≡ freshHead) × JudgedBlock 0 (r .over) (r .report) (running (r .reading .progress) (r .reading .setting) (r .reading .seeds) memory) (judgeStart (now (block .entry))) ⌝ }
+{
+    let s = log_read::contents::setting(block);
+    let seeds = log_read::contents::seeds(block);
+    let code = setting::refusal(s, &seeds, 32768, 4096);
+    let head = fresh_head();
+    let progress = Progress {
+        blocks: 1,
+        records: 0,
+        opened: 0,
+        last: 0,
+    };
+    Next {
+        over: code != 0,
+        report: Report::Refused {
+            number: code as u64,
+            blocks: 0,
+        },
+        reading: Reading {
+            progress,
+            setting: s,
+            seeds,
+            head,
+        },
+    }
+}
+
+// Any block of a log: its setting or records are judged only where the whole block is sound.
+pub fn judge_block(
+    x: Reading,
+    counters: &mut [u16],
+    ticks: &mut [u64],
+    rows: &mut [u32],
+    threads: &mut [u32],
+    block: &[u8; 512],
+) -> Next
+    requires { ⌜ Ready (readSoFar x (now counters) (now ticks) (now rows) (now threads)) ⌝ }
+    ensures { λ r. ⌜ JudgedBlock (x .progress .blocks) (r .over) (r .report) (readSoFar (r .reading) (now (counters .exit)) (now (ticks .exit)) (now (rows .exit)) (now (threads .exit))) (judgeBlock (readSoFar x (now (counters .entry)) (now (ticks .entry)) (now (rows .entry)) (now (threads .entry))) (now (block .entry))) ⌝ }
+{
+    let p = x.progress;
+    let code = log_read::block::refusal(block, p.blocks, p.last);
+    if code != 0 {
+        return Next {
+            over: true,
+            report: Report::Refused {
+                number: code as u64,
+                blocks: p.blocks,
+            },
+            reading: x,
+        };
+    }
+    if p.blocks == 0 {
+        return judge_start(block);
+    }
+    judge_later(x, counters, ticks, rows, threads, block)
+}

@@ -1,0 +1,91 @@
+-- `judge_request` calls the model and compares the answer's number and wait tick.
+use Rattle.rules.specs.State.{State, state}
+use Rattle.judge.proofs.Entries.{request-refused, request-settled}
+use borrow.Author.Needs.{needs}
+use Rattle.judge.proofs.entry.judge_request.Statement.{statement}
+use Rattle.judge.proofs.entry.judge_request.Tie as tie
+
+abbrev entry : tie.After-request → State
+entry c = let a = c .before .before .before .before .before .before .before .before .before .before .args in state (a .h) (a .counters .now) (a .ticks .now) (a .rows .now) (a .threads .now)
+
+abbrev exit : tie.After-request → State
+exit c = let q = c .request in state (q .result .head) (q .last .1 .1 .1 .0) (q .last .1 .1 .1 .1 .0) (q .last .1 .1 .1 .1 .1 .0) (q .last .1 .1 .1 .1 .1 .1 .0)
+
+request-requires : tie.Need-request-requires
+request-requires c κs = search needs
+
+refused-requires : tie.Need-refused-requires
+refused-requires c κs = search needs
+
+same-length : tie.Need-same-length
+same-length c = search needs
+
+same-length-2 : tie.Need-same-length-2
+same-length-2 c = search needs
+
+same-length-3 : tie.Need-same-length-3
+same-length-3 c = search needs
+
+same-length-4 : tie.Need-same-length-4
+same-length-4 c = search needs
+
+returns : tie.Need-returns
+returns c =
+    let a = c .before .before .before .before .before .before .before .before .before .before .before .before .before .before .before .before .before .before .before .before .before .args in
+    let q = c .before .before .before .before .before .before .before .before .before .before .before .request in
+    rw (c .refused .ensures)
+    (request-refused (a .s) (a .seeds .now) (a .p) (entry (c .before .before .before .before .before .before .before .before .before .before .before)) (a .e) ((c .before .before .before .before .before .before .before .before .before .before .before .before .before .before .before .before .before .before .before .before .before) .pre .3) (q .result .code) (q .result .answer) (exit (c .before .before .before .before .before .before .before .before .before .before .before)) (q .ensures)
+    (q .result .head) (c .before .if1 .taken))
+
+answer-number-requires : tie.Need-answer-number-requires
+answer-number-requires c κs = search needs
+
+answer-wait-requires : tie.Need-answer-wait-requires
+answer-wait-requires c κs = search needs
+
+opened-by-requires : tie.Need-opened-by-requires
+opened-by-requires c κs = search needs
+
+settle-requires : tie.Need-settle-requires
+settle-requires c κs = search needs
+
+same-length-5 : tie.Need-same-length-5
+same-length-5 c = search needs
+
+same-length-6 : tie.Need-same-length-6
+same-length-6 c = search needs
+
+same-length-7 : tie.Need-same-length-7
+same-length-7 c = search needs
+
+same-length-8 : tie.Need-same-length-8
+same-length-8 c = search needs
+
+returns-2 : tie.Need-returns-2
+returns-2 c =
+    let a = c .before .before .before .before .before .before .before .before .before .before .before .before .before .before .before .before .before .before .before .before .before .before .before .before .args in
+    let q = c .before .before .before .before .before .before .before .before .before .before .before .before .before .before .request in
+    rw (c .settle .ensures)
+    (request-settled (a .s) (a .seeds .now) (a .p) (entry (c .before .before .before .before .before .before .before .before .before .before .before .before .before .before)) (a .e) ((c .before .before .before .before .before .before .before .before .before .before .before .before .before .before .before .before .before .before .before .before .before .before .before .before) .pre .3) (q .result .code) (q .result .answer) (exit (c .before .before .before .before .before .before .before .before .before .before .before .before .before .before)) (q .ensures)
+    (q .result .head) (c .before .before .before .answer-number .result) (c .before .before .answer-wait .result) (c .before .opened-by .result) (c .before .before .before .before .if1 .left) (c .before .before .before .answer-number .ensures) (c .before .before .answer-wait .ensures) (c .before .opened-by .ensures .1) (c .before .opened-by .ensures .0))
+
+pub judge-request-spec : {M : Type 1} → statement M
+judge-request-spec =
+    tie.close
+    (tie.spec
+    request-requires
+    refused-requires
+    same-length
+    same-length-2
+    same-length-3
+    same-length-4
+    returns
+    answer-number-requires
+    answer-wait-requires
+    opened-by-requires
+    settle-requires
+    same-length-5
+    same-length-6
+    same-length-7
+    same-length-8
+    returns-2)

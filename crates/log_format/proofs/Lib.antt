@@ -1,0 +1,13 @@
+pub mod Numbers
+pub mod Stores
+pub mod Fits
+pub mod Records
+pub mod Judged
+pub mod Agrees
+pub mod ReadBack
+pub mod Framed
+pub mod Written
+pub mod WrittenLog
+pub mod Steps
+pub mod Replies
+pub mod Theorems

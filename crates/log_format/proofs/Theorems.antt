@@ -1,0 +1,14 @@
+-- All that is claimed of the verdict and of the encoder, proved.
+use Rattle.log_format.specs.Claims.{Theorems}
+use Rattle.log_format.proofs.Agrees.{only-if, whenever}
+use Rattle.log_format.proofs.WrittenLog.{written-agrees}
+use Rattle.log_format.proofs.Fits.{start-call, record-call, seal-call}
+
+pub theorems : Theorems
+theorems =
+    record {
+      onlyIf = only-if;
+      whenever = whenever;
+      writtenAgrees = written-agrees;
+      callsWrite = record { start = start-call; put = record-call; seal = seal-call };
+    }

@@ -1,0 +1,139 @@
+-- What is proved about the verdict: the statements, as types. Their proofs are in proofs/.
+use mathlib.Core.Path.{_≡_}
+use mathlib.Core.List.{List, [], _∷_, _++_}
+use Prim.Native.Nat.{ℕ, _+_, _-_, _*_, _/_, _%_, _^_, _≤_, _<_}
+use lib.ListN.{length}
+use Rattle.rules.specs.declared.Setting.{Setting}
+use Rattle.rules.specs.Cells.{All}
+use Rattle.rules.specs.Answers.{none, answerNumber, answerWait}
+use Rattle.rules.specs.Setting.{settingOf, settingRefusal}
+use Rattle.rules.specs.State.{fresh}
+use Rattle.rules.specs.Policy.{limits01, document01}
+use Rattle.rules.specs.Calls.{Call, Reply, refused, answered, finished, shown, replies, activations}
+use Rattle.log_format.specs.declared.Entry.{Entry}
+use Rattle.log_format.specs.Bytes.{blockAt, blocksFrom}
+use Rattle.log_format.specs.Refusals.{sound}
+use Rattle.log_format.specs.Contents.{countIn, settingIn, seedsIn, callOf, entriesIn}
+use Rattle.log_format.specs.Blocks.{blockRefusal}
+use Rattle.log_format.specs.Verdict.{agrees, judged, memory, verdict}
+use Rattle.log_format.specs.Encode.{written, startBlock, startWritten, putRecord, recordWritten, putRecords, recordsBlock, sealWritten, logBytes}
+
+-- ---- what a log says
+
+-- the setting and the seeds of block 0
+abbrev pub settingOfLog : List ℕ → Setting
+settingOfLog bytes = settingIn (blockAt bytes 0)
+
+abbrev pub seedsOfLog : List ℕ → List ℕ
+seedsOfLog bytes = seedsIn (blockAt bytes 0)
+
+-- the blocks after block 0
+abbrev pub laterOf : List ℕ → List (List ℕ)
+laterOf bytes = blocksFrom bytes 1 (length bytes / 512 - 1)
+
+-- the records of these blocks, in order
+abbrev pub entriesOf : List (List ℕ) → List Entry
+entriesOf [] = []
+entriesOf (s ∷ ss) = entriesIn s ++ entriesOf ss
+
+abbrev pub recordsOf : List ℕ → List Entry
+recordsOf bytes = entriesOf (laterOf bytes)
+
+-- the calls that records stand for
+abbrev pub callsOf : List Entry → List Call
+callsOf [] = []
+callsOf (e ∷ es) = callOf e ∷ callsOf es
+
+-- ---- what the rules say
+
+-- the rules' replies to the calls of these records, from set-up
+abbrev pub rulesSay : Setting → List ℕ → List Entry → List Reply
+rulesSay s seeds es = replies document01 s seeds (fresh s memory) (callsOf es)
+
+-- how many requests of these records the rules open, counted as in demand 3
+abbrev pub rulesOpen : Setting → List ℕ → List Entry → ℕ
+rulesOpen s seeds es = length (activations (callsOf es) (rulesSay s seeds es))
+
+-- a record is the rules' decision: not refused, and the answer and the wait tick are those of the rules
+abbrev pub Decision : Entry → Reply → Type 0
+Decision e (refused r) = ⊥
+Decision e (answered a) = (e .answer ≡ answerNumber a) × (e .wait ≡ answerWait a)
+Decision e finished = (e .answer ≡ 0) × (e .wait ≡ 0)
+Decision e (shown c scale quota) = ⊥
+
+-- every record is
+abbrev pub Decided : List Entry → List Reply → Type 0
+Decided [] [] = Unit {0}
+Decided [] (r ∷ rs) = ⊥
+Decided (e ∷ es) [] = ⊥
+Decided (e ∷ es) (r ∷ rs) = Decision e r × Decided es rs
+
+-- ---- well-formed logs
+
+-- the blocks from block b on are sound; before is the record count of the block before them
+abbrev pub SoundFrom : ℕ → ℕ → List (List ℕ) → Type 0
+SoundFrom b before [] = Unit {0}
+SoundFrom b before (s ∷ ss) = (blockRefusal s b before ≡ sound) × SoundFrom (b + 1) (countIn s) ss
+
+-- block 0 and any number of later blocks, all whole and sound
+pub record WellFormed (bytes : List ℕ) : Type 0 where
+  pub whole : length bytes % 512 ≡ 0
+  pub some : 1 ≤ length bytes / 512
+  pub start : blockRefusal (blockAt bytes 0) 0 0 ≡ sound
+  pub later : SoundFrom 1 0 (laterOf bytes)
+
+-- a well-formed log of the rules' decisions under an accepted setting
+pub record Faithful (bytes : List ℕ) : Type 0 where
+  pub wellFormed : WellFormed bytes
+  pub accepted : settingRefusal limits01 (settingOfLog bytes) (seedsOfLog bytes) ≡ none
+  pub decided : Decided (recordsOf bytes) (rulesSay (settingOfLog bytes) (seedsOfLog bytes) (recordsOf bytes))
+
+-- Accepted only if: the verdict `agrees` is given to no other log, and its counts are the true ones.
+abbrev pub OnlyIf : Type 0
+OnlyIf =
+    (bytes : List ℕ) (r o : ℕ) → verdict bytes ≡ judged r o agrees
+    → Faithful bytes
+    × (r ≡ length (recordsOf bytes))
+    × (o ≡ rulesOpen (settingOfLog bytes) (seedsOfLog bytes) (recordsOf bytes))
+
+-- Accepted whenever: every such log agrees.
+abbrev pub Whenever : Type 0
+Whenever =
+    (bytes : List ℕ) → Faithful bytes
+    → verdict bytes ≡ judged (length (recordsOf bytes)) (rulesOpen (settingOfLog bytes) (seedsOfLog bytes) (recordsOf bytes)) agrees
+
+-- ---- the encoder
+
+-- a record that the format can hold: numbers of 64 and 16 bits, bytes, a kind and an answer
+pub record Writable (e : Entry) : Type 0 where
+  pub tick : e .tick < 2 ^ 64
+  pub wait : e .wait < 2 ^ 64
+  pub row : e .row < 2 ^ 16
+  pub bank : e .bank < 256
+  pub thread : e .thread < 256
+  pub kind : e .kind ≤ 1
+  pub answer : e .answer ≤ 4
+
+-- What the encoder writes is accepted: a log of the rules' decisions under an accepted setting, of any length that block numbers of
+-- 32 bits allow, each block written into any 512 bytes.
+abbrev pub WrittenAgrees : Type 0
+WrittenAgrees =
+    (s setting seeds : List ℕ) (es : List Entry) → length s ≡ 512 → settingRefusal limits01 (settingOf setting) seeds ≡ none
+    → All Writable es → length es ≤ 20 * (2 ^ 32 - 1) → Decided es (rulesSay (settingOf setting) seeds es)
+    → verdict (logBytes s setting seeds es) ≡ judged (length es) (rulesOpen (settingOf setting) seeds es) agrees
+
+-- The encoder's calls write the blocks of such a log and refuse none of it: block 0 of an accepted setting, a record that the format can
+-- hold, a block of 1 to 20 records under a number of 32 bits.
+pub record CallsWrite : Type 0 where
+  pub start : (s setting seeds : List ℕ) → settingRefusal limits01 (settingOf setting) seeds ≡ none → startWritten s setting seeds ≡ written 0 (startBlock s setting seeds)
+  pub put : (s : List ℕ) (k : ℕ) (e : Entry) → k < 20 → Writable e → recordWritten s k e ≡ written 0 (putRecord s k e)
+  pub seal : (s : List ℕ) (b : ℕ) (es : List Entry) → 1 ≤ b → b < 2 ^ 32 → 1 ≤ length es → length es ≤ 20
+      → sealWritten (putRecords s 0 es) b (length es) ≡ written 0 (recordsBlock s b es)
+
+-- ---- all of it
+
+pub record Theorems : Type 0 where
+  pub onlyIf : OnlyIf
+  pub whenever : Whenever
+  pub writtenAgrees : WrittenAgrees
+  pub callsWrite : CallsWrite
