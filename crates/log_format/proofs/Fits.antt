@@ -10,7 +10,7 @@ use lib.ListN.{length, getD}
 use Rattle.rules.specs.Cells.{every}
 use Rattle.rules.specs.Answers.{none}
 use Rattle.rules.specs.Setting.{settingOf, settingRefusal}
-use Rattle.rules.specs.Policy.{limits01}
+use Rattle.rules.specs.declared.Limits.{Limits}
 use Rattle.rules.proofs.Tests.{and-l, and-r, holds}
 use Rattle.rules.proofs.Places.{seeds-long}
 use Rattle.rules.proofs.Accept.{accepted}
@@ -82,11 +82,11 @@ seal-call s b es lo hi some few =
     rw (le-leb 1 b lo, le-leb b 4294967295 (omega arith), le-leb 1 (length es) some, le-leb (length es) 20 few)
 
 -- an accepted setting can be written
-pub start-call : (s setting seeds : List ℕ) → settingRefusal limits01 (settingOf setting) seeds ≡ none
+pub start-call : (m : Limits) → m .threshold < 2 ^ 32 → (s setting seeds : List ℕ) → settingRefusal m (settingOf setting) seeds ≡ none
     → startWritten s setting seeds ≡ written 0 (startBlock s setting seeds)
 unfolding startWritten startFits settingOf
-start-call s setting seeds e =
-    let ok = accepted limits01 (settingOf setting) seeds e in
+start-call m small s setting seeds e =
+    let ok = accepted m (settingOf setting) seeds e in
     rw (
       lt-ltb (getD setting 0 0) (2 ^ 32) (omega (arith, ok .ranges .w-high)),
       lt-ltb (getD setting 1 0) (2 ^ 32) (omega (arith, ok .ranges .trc-high)),

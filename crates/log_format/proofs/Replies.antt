@@ -15,7 +15,7 @@ use Rattle.log_format.specs.Refusals.{model}
 use Rattle.log_format.specs.Contents.{callOf}
 use Rattle.log_format.specs.Verdict.{refusedAfter, Running, over, on, claims, openedBy, counted, differsHere, judgeReply, judgeRecord}
 use Rattle.log_format.proofs.Records.{outcomeOf}
-
+use Rattle.rules.specs.Policy.{Policy}
 -- ---- the step of a record
 
 -- the call of a record, by its kind
@@ -26,15 +26,15 @@ pub call-done : (e : Entry) → 1 ≤ e .kind → callOf e ≡ done (e .tick) (e
 call-done e h = let n : e .kind ≡ 0 → ⊥ = λ z. omega arith in rw (ne-eqb (e .kind) 0 n)
 
 -- a call that returns another code ends the log with it
-pub record-refused : (x : Running) (e : Entry) → (returnCode (outcomeOf (x .setting) (x .seeds) (x .state) e .reply) ≡ 0 → ⊥)
+pub record-refused : (p : Policy) (x : Running) (e : Entry) → (returnCode (outcomeOf p (x .setting) (x .seeds) (x .state) e .reply) ≡ 0 → ⊥)
     → (r : Refusal)
-    × (refusalNumber r ≡ returnCode (outcomeOf (x .setting) (x .seeds) (x .state) e .reply))
-    × (judgeRecord x e ≡ over (refusedAfter (model r) (x .progress .blocks)))
+    × (refusalNumber r ≡ returnCode (outcomeOf p (x .setting) (x .seeds) (x .state) e .reply))
+    × (judgeRecord p x e ≡ over (refusedAfter (model r) (x .progress .blocks)))
 unfolding judgeRecord
-record-refused x e h = go (o .reply) h
+record-refused p x e h = go (o .reply) h
   where
     o : Outcome
-    o = outcomeOf (x .setting) (x .seeds) (x .state) e
+    o = outcomeOf p (x .setting) (x .seeds) (x .state) e
 
     go : (y : Reply) → (returnCode y ≡ 0 → ⊥) → (r : Refusal) × (refusalNumber r ≡ returnCode y) × (judgeReply x e y (o .state) ≡ over (refusedAfter (model r) (x .progress .blocks)))
     go (refused r) k = (r, refl, refl)
@@ -43,22 +43,22 @@ record-refused x e h = go (o .reply) h
     go (shown c d q) k = absurd (k refl)
 
 -- an answer: the record agrees where number and wait tick are the claimed ones
-pub record-answered : (x : Running) (e : Entry) (a : Answer) → outcomeOf (x .setting) (x .seeds) (x .state) e .reply ≡ answered a
-    → judgeRecord x e
+pub record-answered : (p : Policy) (x : Running) (e : Entry) (a : Answer) → outcomeOf p (x .setting) (x .seeds) (x .state) e .reply ≡ answered a
+    → judgeRecord p x e
     ≡ cond (eqb (e .answer) (answerNumber a) && eqb (e .wait) (answerWait a))
-    (on (counted x (answered a) (outcomeOf (x .setting) (x .seeds) (x .state) e .state)))
-    (over (differsHere (counted x (answered a) (outcomeOf (x .setting) (x .seeds) (x .state) e .state))))
+    (on (counted x (answered a) (outcomeOf p (x .setting) (x .seeds) (x .state) e .state)))
+    (over (differsHere (counted x (answered a) (outcomeOf p (x .setting) (x .seeds) (x .state) e .state))))
 unfolding judgeRecord claims
-record-answered x e a h = rw h
+record-answered p x e a h = rw h
 
 -- a done: the record agrees where both are 0
-pub record-finished : (x : Running) (e : Entry) → outcomeOf (x .setting) (x .seeds) (x .state) e .reply ≡ finished
-    → judgeRecord x e
+pub record-finished : (p : Policy) (x : Running) (e : Entry) → outcomeOf p (x .setting) (x .seeds) (x .state) e .reply ≡ finished
+    → judgeRecord p x e
     ≡ cond (eqb (e .answer) 0 && eqb (e .wait) 0)
-    (on (counted x finished (outcomeOf (x .setting) (x .seeds) (x .state) e .state)))
-    (over (differsHere (counted x finished (outcomeOf (x .setting) (x .seeds) (x .state) e .state))))
+    (on (counted x finished (outcomeOf p (x .setting) (x .seeds) (x .state) e .state)))
+    (over (differsHere (counted x finished (outcomeOf p (x .setting) (x .seeds) (x .state) e .state))))
 unfolding judgeRecord claims
-record-finished x e h = rw h
+record-finished p x e h = rw h
 
 -- a request is opened where its answer's number is 0
 pub opened-number : (a : Answer) → openedBy (answered a) ≡ cond (eqb (answerNumber a) 0) 1 0

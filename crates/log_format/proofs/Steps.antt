@@ -13,22 +13,22 @@ use Rattle.log_format.specs.Refusals.{LogRefusal, wrongCheck, badContent
 use Rattle.log_format.specs.Contents.{countIn, entryIn, entriesFrom}
 use Rattle.log_format.specs.Blocks.{checked, recordsLaidOut, inTurn, laidOut, blockRefusal}
 use Rattle.log_format.specs.Verdict.{Running, andThen, judgeRecord, judgeRecords, verdictOf, judgeBlock, judgeBlocks}
-
+use Rattle.rules.specs.Policy.{Policy}
 -- ---- one more record, one more block
 
-pub records-step : (x : Running) (s : List ℕ) (k n : ℕ) → 0 < n
-    → judgeRecords x (entriesFrom s k n) ≡ andThen (judgeRecord x (entryIn s k)) (λ (y : Running). judgeRecords y (entriesFrom s (k + 1) (n - 1)))
+pub records-step : (p : Policy) (x : Running) (s : List ℕ) (k n : ℕ) → 0 < n
+    → judgeRecords p x (entriesFrom s k n) ≡ andThen (judgeRecord p x (entryIn s k)) (λ (y : Running). judgeRecords p y (entriesFrom s (k + 1) (n - 1)))
 unfolding judgeRecords
-records-step x s k zero h = absurd (omega arith)
-records-step x s k (suc n) h =
+records-step p x s k zero h = absurd (omega arith)
+records-step p x s k (suc n) h =
     let e : suc n - 1 ≡ n = omega arith in
     simp (add-one k, e)
 
-pub blocks-step : (x : Running) (bytes : List ℕ) (b n : ℕ) (whole : Bool) → 0 < n
-    → judgeBlocks x (blocksFrom bytes b n) whole ≡ verdictOf (judgeBlock x (blockAt bytes b)) (λ (y : Running). judgeBlocks y (blocksFrom bytes (b + 1) (n - 1)) whole)
+pub blocks-step : (p : Policy) (x : Running) (bytes : List ℕ) (b n : ℕ) (whole : Bool) → 0 < n
+    → judgeBlocks p x (blocksFrom bytes b n) whole ≡ verdictOf (judgeBlock p x (blockAt bytes b)) (λ (y : Running). judgeBlocks p y (blocksFrom bytes (b + 1) (n - 1)) whole)
 unfolding judgeBlocks
-blocks-step x bytes b zero whole h = absurd (omega arith)
-blocks-step x bytes b (suc n) whole h =
+blocks-step p x bytes b zero whole h = absurd (omega arith)
+blocks-step p x bytes b (suc n) whole h =
     let e : suc n - 1 ≡ n = omega arith in
     simp (add-one b, e)
 

@@ -10,5 +10,5 @@ theorems =
       onlyIf = only-if;
       whenever = whenever;
       writtenAgrees = written-agrees;
-      callsWrite = record { start = start-call; put = record-call; seal = seal-call };
+      callsWrite = λ m small. record { start = start-call m small; put = record-call; seal = seal-call };
     }

@@ -11,7 +11,8 @@ use lib.Seq.{sets, length-sets, ext-getD, take-at, drop-at}
 use borrow.Author.Tests.{le-leb}
 use Rattle.rules.specs.Cells.{All}
 use Rattle.rules.specs.Setting.{settingOf}
-use Rattle.rules.specs.Policy.{limits01}
+use Rattle.rules.specs.declared.Limits.{Limits}
+use Rattle.rules.specs.Policy.{Policy}
 use Rattle.rules.proofs.Places.{seed-small, seeds-long}
 use Rattle.rules.proofs.Accept.{accepted}
 use Rattle.rules.specs.Tested.{Accepted}
@@ -66,9 +67,9 @@ module _ (s setting seeds : List ℕ) (len : length s ≡ 512) where
       little-same (startBlock s setting seeds) (putStart s setting seeds) (44 + 2 * i) 2 8 172 (start-frame .body) (omega arith) (omega arith)
       ∙ (rw (zero-add i) at r)
 
-  pub start-setting : Accepted limits01 (settingOf setting) seeds → settingIn (startBlock s setting seeds) ≡ settingOf setting
+  pub start-setting : (m : Limits) → m .threshold < 2 ^ 32 → Accepted m (settingOf setting) seeds → settingIn (startBlock s setting seeds) ≡ settingOf setting
   unfolding settingIn settingOf
-  start-setting ok =
+  start-setting m small ok =
       rw (
         start-number 0 (omega arith) (omega (arith, ok .ranges .w-high)),
         start-number 1 (omega arith) (omega (arith, ok .ranges .trc-high)),
@@ -81,9 +82,9 @@ module _ (s setting seeds : List ℕ) (len : length s ≡ 512) where
         start-number 8 (omega arith) (omega (arith, ok .ranges .threads-high)),
       )
 
-  pub start-seeds : Accepted limits01 (settingOf setting) seeds → seedsIn (startBlock s setting seeds) ≡ seeds
+  pub start-seeds : (m : Limits) → Accepted m (settingOf setting) seeds → seedsIn (startBlock s setting seeds) ≡ seeds
   unfolding seedsIn
-  start-seeds ok =
+  start-seeds m ok =
       let t = startBlock s setting seeds in
       let n = seeds-long seeds (ok .seeds-ok) in
       ext-getD 0 (halves t 44 64) seeds (length-halves t 44 64 ∙ sym n)
@@ -172,10 +173,10 @@ blocks-of p b (t ∷ ss) lp a =
 
 -- ---- the log
 
-pub written-agrees : WrittenAgrees
+pub written-agrees : (p : Policy) → p .limits .threshold < 2 ^ 32 → WrittenAgrees p
 unfolding logBytes
-written-agrees s setting seeds es len e w few d =
-    let ok = accepted limits01 (settingOf setting) seeds e in
+written-agrees p small s setting seeds es len e w few d =
+    let ok = accepted (p .limits) (settingOf setting) seeds e in
     let t = startBlock s setting seeds in
     let ss = laterBlocks s (length es) 1 es in
     let bytes = joined (t ∷ ss) in
@@ -186,12 +187,12 @@ written-agrees s setting seeds es len e w few d =
     let b0 : blockAt bytes 0 ≡ t = block-of [] t (joined ss) 0 refl lt in
     let bs : laterOf bytes ≡ ss = ap (λ (k : ℕ). blocksFrom bytes 1 k) n ∙ blocks-of t 1 ss (omega arith) (f .lengths) in
     let es-is : recordsOf bytes ≡ es = ap entriesOf bs ∙ f .records in
-    let set-is : settingOfLog bytes ≡ settingOf setting = ap settingIn b0 ∙ start-setting s setting seeds len ok in
-    let seeds-is : seedsOfLog bytes ≡ seeds = ap seedsIn b0 ∙ start-seeds s setting seeds len ok in
-    let faithful : Faithful bytes =
+    let set-is : settingOfLog bytes ≡ settingOf setting = ap settingIn b0 ∙ start-setting s setting seeds len (p .limits) small ok in
+    let seeds-is : seedsOfLog bytes ≡ seeds = ap seedsIn b0 ∙ start-seeds s setting seeds len (p .limits) ok in
+    let faithful : Faithful p bytes =
     record {
       wellFormed = record { whole = omega arith; some = omega arith; start = rw b0 (start-sound s setting seeds len); later = rw bs (f .blocks) };
       accepted = rw (set-is, seeds-is) e;
       decided = rw (es-is, set-is, seeds-is) d;
     } in
-    whenever bytes faithful ∙ rw (es-is, set-is, seeds-is)
+    whenever p bytes faithful ∙ rw (es-is, set-is, seeds-is)

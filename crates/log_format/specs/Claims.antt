@@ -4,11 +4,12 @@ use mathlib.Core.List.{List, [], _∷_, _++_}
 use Prim.Native.Nat.{ℕ, _+_, _-_, _*_, _/_, _%_, _^_, _≤_, _<_}
 use lib.ListN.{length}
 use Rattle.rules.specs.declared.Setting.{Setting}
+use Rattle.rules.specs.declared.Limits.{Limits}
 use Rattle.rules.specs.Cells.{All}
 use Rattle.rules.specs.Answers.{none, answerNumber, answerWait}
 use Rattle.rules.specs.Setting.{settingOf, settingRefusal}
 use Rattle.rules.specs.State.{fresh}
-use Rattle.rules.specs.Policy.{limits01, document01}
+use Rattle.rules.specs.Policy.{Policy}
 use Rattle.rules.specs.Calls.{Call, Reply, refused, answered, finished, shown, replies, activations}
 use Rattle.log_format.specs.declared.Entry.{Entry}
 use Rattle.log_format.specs.Bytes.{blockAt, blocksFrom}
@@ -47,12 +48,12 @@ callsOf (e ∷ es) = callOf e ∷ callsOf es
 -- ---- what the rules say
 
 -- the rules' replies to the calls of these records, from set-up
-abbrev pub rulesSay : Setting → List ℕ → List Entry → List Reply
-rulesSay s seeds es = replies document01 s seeds (fresh s memory) (callsOf es)
+abbrev pub rulesSay : Policy → Setting → List ℕ → List Entry → List Reply
+rulesSay p s seeds es = replies p s seeds (fresh s (memory (p .limits))) (callsOf es)
 
 -- how many requests of these records the rules open, counted as in demand 3
-abbrev pub rulesOpen : Setting → List ℕ → List Entry → ℕ
-rulesOpen s seeds es = length (activations (callsOf es) (rulesSay s seeds es))
+abbrev pub rulesOpen : Policy → Setting → List ℕ → List Entry → ℕ
+rulesOpen p s seeds es = length (activations (callsOf es) (rulesSay p s seeds es))
 
 -- a record is the rules' decision: not refused, and the answer and the wait tick are those of the rules
 abbrev pub Decision : Entry → Reply → Type 0
@@ -83,24 +84,24 @@ pub record WellFormed (bytes : List ℕ) : Type 0 where
   pub later : SoundFrom 1 0 (laterOf bytes)
 
 -- a well-formed log of the rules' decisions under an accepted setting
-pub record Faithful (bytes : List ℕ) : Type 0 where
+pub record Faithful (p : Policy) (bytes : List ℕ) : Type 0 where
   pub wellFormed : WellFormed bytes
-  pub accepted : settingRefusal limits01 (settingOfLog bytes) (seedsOfLog bytes) ≡ none
-  pub decided : Decided (recordsOf bytes) (rulesSay (settingOfLog bytes) (seedsOfLog bytes) (recordsOf bytes))
+  pub accepted : settingRefusal (p .limits) (settingOfLog bytes) (seedsOfLog bytes) ≡ none
+  pub decided : Decided (recordsOf bytes) (rulesSay p (settingOfLog bytes) (seedsOfLog bytes) (recordsOf bytes))
 
 -- Accepted only if: the verdict `agrees` is given to no other log, and its counts are the true ones.
-abbrev pub OnlyIf : Type 0
-OnlyIf =
-    (bytes : List ℕ) (r o : ℕ) → verdict bytes ≡ judged r o agrees
-    → Faithful bytes
+abbrev pub OnlyIf : Policy → Type 0
+OnlyIf p =
+    (bytes : List ℕ) (r o : ℕ) → verdict p bytes ≡ judged r o agrees
+    → Faithful p bytes
     × (r ≡ length (recordsOf bytes))
-    × (o ≡ rulesOpen (settingOfLog bytes) (seedsOfLog bytes) (recordsOf bytes))
+    × (o ≡ rulesOpen p (settingOfLog bytes) (seedsOfLog bytes) (recordsOf bytes))
 
 -- Accepted whenever: every such log agrees.
-abbrev pub Whenever : Type 0
-Whenever =
-    (bytes : List ℕ) → Faithful bytes
-    → verdict bytes ≡ judged (length (recordsOf bytes)) (rulesOpen (settingOfLog bytes) (seedsOfLog bytes) (recordsOf bytes)) agrees
+abbrev pub Whenever : Policy → Type 0
+Whenever p =
+    (bytes : List ℕ) → Faithful p bytes
+    → verdict p bytes ≡ judged (length (recordsOf bytes)) (rulesOpen p (settingOfLog bytes) (seedsOfLog bytes) (recordsOf bytes)) agrees
 
 -- ---- the encoder
 
@@ -115,25 +116,26 @@ pub record Writable (e : Entry) : Type 0 where
   pub answer : e .answer ≤ 4
 
 -- What the encoder writes is accepted: a log of the rules' decisions under an accepted setting, of any length that block numbers of
--- 32 bits allow, each block written into any 512 bytes.
-abbrev pub WrittenAgrees : Type 0
-WrittenAgrees =
-    (s setting seeds : List ℕ) (es : List Entry) → length s ≡ 512 → settingRefusal limits01 (settingOf setting) seeds ≡ none
-    → All Writable es → length es ≤ 20 * (2 ^ 32 - 1) → Decided es (rulesSay (settingOf setting) seeds es)
-    → verdict (logBytes s setting seeds es) ≡ judged (length es) (rulesOpen (settingOf setting) seeds es) agrees
+-- 32 bits allow, each block written into any 512 bytes. (It is proved where N is within 32 bits, as the format has it.)
+abbrev pub WrittenAgrees : Policy → Type 0
+WrittenAgrees p =
+    (s setting seeds : List ℕ) (es : List Entry) → length s ≡ 512 → settingRefusal (p .limits) (settingOf setting) seeds ≡ none
+    → All Writable es → length es ≤ 20 * (2 ^ 32 - 1) → Decided es (rulesSay p (settingOf setting) seeds es)
+    → verdict p (logBytes s setting seeds es) ≡ judged (length es) (rulesOpen p (settingOf setting) seeds es) agrees
 
 -- The encoder's calls write the blocks of such a log and refuse none of it: block 0 of an accepted setting, a record that the format can
 -- hold, a block of 1 to 20 records under a number of 32 bits.
-pub record CallsWrite : Type 0 where
-  pub start : (s setting seeds : List ℕ) → settingRefusal limits01 (settingOf setting) seeds ≡ none → startWritten s setting seeds ≡ written 0 (startBlock s setting seeds)
+pub record CallsWrite (m : Limits) : Type 0 where
+  pub start : (s setting seeds : List ℕ) → settingRefusal m (settingOf setting) seeds ≡ none → startWritten s setting seeds ≡ written 0 (startBlock s setting seeds)
   pub put : (s : List ℕ) (k : ℕ) (e : Entry) → k < 20 → Writable e → recordWritten s k e ≡ written 0 (putRecord s k e)
   pub seal : (s : List ℕ) (b : ℕ) (es : List Entry) → 1 ≤ b → b < 2 ^ 32 → 1 ≤ length es → length es ≤ 20
       → sealWritten (putRecords s 0 es) b (length es) ≡ written 0 (recordsBlock s b es)
 
 -- ---- all of it
 
+-- For every policy; the encoder's, for limits whose greatest N has 32 bits.
 pub record Theorems : Type 0 where
-  pub onlyIf : OnlyIf
-  pub whenever : Whenever
-  pub writtenAgrees : WrittenAgrees
-  pub callsWrite : CallsWrite
+  pub onlyIf : (p : Policy) → OnlyIf p
+  pub whenever : (p : Policy) → Whenever p
+  pub writtenAgrees : (p : Policy) → p .limits .threshold < 2 ^ 32 → WrittenAgrees p
+  pub callsWrite : (m : Limits) → m .threshold < 2 ^ 32 → CallsWrite m

@@ -5,10 +5,11 @@ use Prim.Native.Nat.{ℕ, _+_, _/_, _%_}
 use lib.Dec.{eqb}
 use lib.ListN.{length, replicate}
 use Rattle.rules.specs.declared.Setting.{Setting}
+use Rattle.rules.specs.declared.Limits.{Limits}
 use Rattle.rules.specs.declared.Answer.the-variants.{Opened, Wait, Quota}
 use Rattle.rules.specs.Answers.{Refusal, refusalNumber, answerNumber, answerWait}
 use Rattle.rules.specs.State.{State, freshHead, fresh}
-use Rattle.rules.specs.Policy.{document01}
+use Rattle.rules.specs.Policy.{Policy}
 use Rattle.rules.specs.Calls.{Reply, refused, answered, finished, shown, setupRefusal, step}
 use Rattle.log_format.specs.declared.Entry.{Entry}
 use Rattle.log_format.specs.Bytes.{blocksFrom}
@@ -94,9 +95,9 @@ judgeReply x e (answered a) st = cond (claims e (answered a)) (on (counted x (an
 judgeReply x e finished st = cond (claims e finished) (on (counted x finished st)) (over (differsHere (counted x finished st)))
 judgeReply x e (shown c scale quota) st = over (differsHere (counted x (shown c scale quota) st))
 
-unfoldable pub judgeRecord : Running → Entry → Step
-judgeRecord x e =
-    let o = step document01 (x .setting) (x .seeds) (x .state) (callOf e) in
+unfoldable pub judgeRecord : Policy → Running → Entry → Step
+judgeRecord p x e =
+    let o = step p (x .setting) (x .seeds) (x .state) (callOf e) in
     judgeReply x e (o .reply) (o .state)
 
 -- what comes next, unless the step ended the log
@@ -105,20 +106,20 @@ andThen (over v) f = over v
 andThen (on x) f = f x
 
 -- "its records one by one"
-unfoldable pub judgeRecords : Running → List Entry → Step
-judgeRecords x [] = on x
-judgeRecords x (e ∷ es) = andThen (judgeRecord x e) (λ y. judgeRecords y es)
+unfoldable pub judgeRecords : Policy → Running → List Entry → Step
+judgeRecords p x [] = on x
+judgeRecords p x (e ∷ es) = andThen (judgeRecord p x e) (λ y. judgeRecords p y es)
 
 -- ---- a block
 
--- Memory for the largest setting. Set-up clears the part that a setting uses, and no call touches the rest.
-unfoldable pub memory : State
-memory =
+-- Memory for the largest setting of these limits. Set-up clears the part that a setting uses, and no call touches the rest.
+unfoldable pub memory : Limits → State
+memory m =
     record {
       head = freshHead;
       counters = replicate 32768 0;
-      ticks = replicate 4096 0;
-      rows = replicate 4096 0;
+      ticks = replicate (m .history) 0;
+      rows = replicate (m .history) 0;
       threads = replicate 1536 0;
     }
 
@@ -142,36 +143,37 @@ noneCounted x =
       state = x .state;
     }
 
--- a model that was set up, before the first record
-abbrev pub setUp : Setting → List ℕ → Running
-setUp s seeds =
+-- a model that was set up in this memory, before the first record
+abbrev pub setUp : Setting → List ℕ → State → Running
+setUp s seeds st =
     record {
       progress = record { blocks = 1; records = 0; opened = 0; last = 0 };
       setting = s;
       seeds = seeds;
-      state = fresh s memory;
+      state = fresh s st;
     }
 
 -- a refusal of the model ends the log after so many whole blocks, or the log goes on
 abbrev pub unlessRefusedBy : Refusal → ℕ → Running → Step
 unlessRefusedBy r blocks x = cond (eqb (refusalNumber r) 0) (on x) (over (refusedAfter (model r) blocks))
 
--- block 0: its setting, refusals 1 to 5
-unfoldable pub judgeStart : List ℕ → Step
-judgeStart s = unlessRefusedBy (setupRefusal document01 (settingIn s) (seedsIn s) memory) 0 (setUp (settingIn s) (seedsIn s))
+-- block 0: set-up with its setting and seeds, refusals 1 to 5
+unfoldable pub judgeStart : Policy → Running → List ℕ → Step
+judgeStart p x s =
+    unlessRefusedBy (setupRefusal (p .limits) (settingIn s) (seedsIn s) (x .state)) 0 (setUp (settingIn s) (seedsIn s) (x .state))
 
 -- a later block: its records
-unfoldable pub judgeLater : Running → List ℕ → Step
-judgeLater x s = andThen (judgeRecords (noneCounted x) (entriesIn s)) (λ y. on (nextBlock y))
+unfoldable pub judgeLater : Policy → Running → List ℕ → Step
+judgeLater p x s = andThen (judgeRecords p (noneCounted x) (entriesIn s)) (λ y. on (nextBlock y))
 
 -- "judges a block's setting or records after the whole block is found sound"
-unfoldable pub judgeSound : Running → List ℕ → Step
-judgeSound x s = cond (eqb (x .progress .blocks) 0) (judgeStart s) (judgeLater x s)
+unfoldable pub judgeSound : Policy → Running → List ℕ → Step
+judgeSound p x s = cond (eqb (x .progress .blocks) 0) (judgeStart p x s) (judgeLater p x s)
 
-unfoldable pub judgeBlock : Running → List ℕ → Step
-judgeBlock x s =
+unfoldable pub judgeBlock : Policy → Running → List ℕ → Step
+judgeBlock p x s =
     let r = blockRefusal s (x .progress .blocks) (x .progress .last) in
-    cond (eqb (logRefusalNumber r) 0) (judgeSound x s) (over (refusedAfter r (x .progress .blocks)))
+    cond (eqb (logRefusalNumber r) 0) (judgeSound p x s) (over (refusedAfter r (x .progress .blocks)))
 
 -- ---- the log
 
@@ -186,20 +188,20 @@ verdictOf (over v) f = v
 verdictOf (on x) f = f x
 
 -- "It stops at the first event." whole: nothing is left behind the last block
-unfoldable pub judgeBlocks : Running → List (List ℕ) → Bool → Verdict
-judgeBlocks x [] whole = ended (x .progress) whole
-judgeBlocks x (s ∷ ss) whole = verdictOf (judgeBlock x s) (λ y. judgeBlocks y ss whole)
+unfoldable pub judgeBlocks : Policy → Running → List (List ℕ) → Bool → Verdict
+judgeBlocks p x [] whole = ended (x .progress) whole
+judgeBlocks p x (s ∷ ss) whole = verdictOf (judgeBlock p x s) (λ y. judgeBlocks p y ss whole)
 
 -- before the first block; the setting and the seeds are not looked at
-unfoldable pub unread : Running
-unread =
+unfoldable pub unread : Limits → Running
+unread m =
     record {
       progress = record { blocks = 0; records = 0; opened = 0; last = 0 };
       setting = settingIn [];
       seeds = [];
-      state = memory;
+      state = memory m;
     }
 
--- the verdict of a log, for every list of bytes
-unfoldable pub verdict : List ℕ → Verdict
-verdict bytes = judgeBlocks unread (blocksFrom bytes 0 (length bytes / 512)) (eqb (length bytes % 512) 0)
+-- the verdict of a log by the rules of a policy, for every list of bytes
+unfoldable pub verdict : Policy → List ℕ → Verdict
+verdict p bytes = judgeBlocks p (unread (p .limits)) (blocksFrom bytes 0 (length bytes / 512)) (eqb (length bytes % 512) 0)
