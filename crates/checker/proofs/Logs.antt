@@ -7,9 +7,9 @@ use native.Mathlib.Omega.{arith}
 use lib.Dec.{eqb}
 use lib.ListN.{length}
 use borrow.Author.Tests.{eq-eqb, ne-eqb}
-use Rattle.rules.specs.State.{freshHead}
+use Rattle.rules.specs.State.{freshHead, state}
 use Rattle.log_format.specs.Bytes.{blockAt, blocksFrom}
-use Rattle.log_format.specs.Verdict.{Verdict, Running, Step, over, on, memory, ended, verdictOf, judgeSound, judgeBlock, judgeBlocks, unread, verdict}
+use Rattle.log_format.specs.Verdict.{Verdict, Running, Step, over, on, memory, ended, verdictOf, judgeStart, judgeSound, judgeBlock, judgeBlocks, unread, verdict}
 use Rattle.log_format.proofs.Steps.{blocks-step}
 use Rattle.judge.specs.declared.Progress.{Progress}
 use Rattle.judge.specs.declared.Report.{Report}
@@ -18,23 +18,26 @@ use Rattle.checker_block.specs.declared.Reading.{Reading}
 use Rattle.judge.specs.Follow.{progressOf, reportOf, Follows}
 use Rattle.checker_block.specs.Blocks.{readSoFar, Ready, JudgedBlock}
 use Rattle.checker_block.proofs.Steps.{not-both}
-
+use Rattle.rules.specs.declared.Head.{Head}
+use Rattle.rules.specs.Policy.{limits01, narrow}
 -- ---- before the first block
 
--- only the progress is looked at
-unread-block : (x : Running) (block : List ℕ) → x .progress ≡ unread .progress → judgeBlock x block ≡ judgeBlock unread block
-unfolding judgeBlock judgeSound unread
-unread-block x block e = rw e
+-- only the progress and the memory are looked at
+unread-block : (x : Running) (block : List ℕ) → x .progress ≡ (unread limits01) .progress → x .state ≡ memory limits01
+    → judgeBlock narrow x block ≡ judgeBlock narrow (unread limits01) block
+unfolding judgeBlock judgeSound judgeStart unread
+unread-block x block e m = rw (e, m)
 
-pub unread-blocks : (x : Running) (blocks : List (List ℕ)) (whole : Bool) → x .progress ≡ unread .progress → judgeBlocks unread blocks whole ≡ judgeBlocks x blocks whole
+pub unread-blocks : (x : Running) (blocks : List (List ℕ)) (whole : Bool) → x .progress ≡ (unread limits01) .progress → x .state ≡ memory limits01
+    → judgeBlocks narrow (unread limits01) blocks whole ≡ judgeBlocks narrow x blocks whole
 unfolding judgeBlocks
-unread-blocks x [] whole e = rw e
-unread-blocks x (s ∷ ss) whole e = rw (unread-block x s e)
+unread-blocks x [] whole e m = rw e
+unread-blocks x (s ∷ ss) whole e m = rw (unread-block x s e m)
 
-pub start-ready : (x : Reading) → progressOf (x .progress) ≡ unread .progress → x .head ≡ freshHead
-    → Ready (readSoFar x (memory .counters) (memory .ticks) (memory .rows) (memory .threads))
-unfolding unread memory
-start-ready x e h =
+pub start-ready : (x : Reading) → progressOf (x .progress) ≡ (unread limits01) .progress
+    → (counters ticks rows threads : List ℕ) → Ready (readSoFar x counters ticks rows threads)
+unfolding unread
+start-ready x e counters ticks rows threads =
     let z : x .progress .blocks ≡ 0 = ap (λ p. p .blocks) e in
     let r : x .progress .records ≡ 0 = ap (λ p. p .records) e in
     let o : x .progress .opened ≡ 0 = ap (λ p. p .opened) e in
@@ -42,9 +45,14 @@ start-ready x e h =
       blocks = omega arith;
       records = omega arith;
       opened = omega arith;
-      start = λ _. rw h refl;
       model = λ k. absurd (omega arith);
     }
+
+-- a fresh head and buffers of zeros are the memory of the definition
+pub start-memory : (h : Head) → h ≡ freshHead
+    → state h ((memory limits01) .counters) ((memory limits01) .ticks) ((memory limits01) .rows) ((memory limits01) .threads) ≡ memory limits01
+unfolding memory
+start-memory h e = rw e refl
 
 -- ---- block by block
 
@@ -59,36 +67,36 @@ on-verdict b r x (on y) f h e = ap f (h .1)
 module _ (bytes : List ℕ) (n : ℕ) (whole : Bool) where
   -- the verdict of all n blocks
   abbrev pub ofAll : Verdict
-  ofAll = judgeBlocks unread (blocksFrom bytes 0 n) whole
+  ofAll = judgeBlocks narrow (unread limits01) (blocksFrom bytes 0 n) whole
 
   -- after b blocks: what the rest gives is what all give
   pub record Through (b : ℕ) (x : Running) : Type 0 where
-    pub rest : ofAll ≡ judgeBlocks x (blocksFrom bytes b (n - b)) whole
+    pub rest : ofAll ≡ judgeBlocks narrow x (blocksFrom bytes b (n - b)) whole
     pub ready : Ready x
 
-  pub through-none : (x : Running) → x .progress ≡ unread .progress → Ready x → Through 0 x
-  through-none x e ok =
+  pub through-none : (x : Running) → x .progress ≡ (unread limits01) .progress → x .state ≡ memory limits01 → Ready x → Through 0 x
+  through-none x e m ok =
       let z : n - 0 ≡ n = omega arith in
-      record { rest = rw z (unread-blocks x (blocksFrom bytes 0 n) whole e); ready = ok }
+      record { rest = rw z (unread-blocks x (blocksFrom bytes 0 n) whole e m); ready = ok }
 
   module _ (b : ℕ) (x : Running) (t : Through b x) (more : b < n) (gone : Bool) (report : Report) (z : Running)
-      (j : JudgedBlock (x .progress .blocks) gone report z (judgeBlock x (blockAt bytes b))) where
+      (j : JudgedBlock (x .progress .blocks) gone report z (judgeBlock narrow x (blockAt bytes b))) where
     -- the rest, by the step of block b
     after-one : Running → Verdict
-    after-one y = judgeBlocks y (blocksFrom bytes (b + 1) (n - b - 1)) whole
+    after-one y = judgeBlocks narrow y (blocksFrom bytes (b + 1) (n - b - 1)) whole
 
-    by-one : ofAll ≡ verdictOf (judgeBlock x (blockAt bytes b)) after-one
+    by-one : ofAll ≡ verdictOf (judgeBlock narrow x (blockAt bytes b)) after-one
     unfolding after-one
-    by-one = t .rest ∙ blocks-step x bytes b (n - b) whole (omega arith)
+    by-one = t .rest ∙ blocks-step narrow x bytes b (n - b) whole (omega arith)
 
     pub through-more : gone ≡ false → Through (b + 1) z
     unfolding after-one
     through-more e =
         let k : n - (b + 1) ≡ n - b - 1 = omega arith in
-        record { rest = by-one ∙ on-verdict gone report z (judgeBlock x (blockAt bytes b)) after-one (j .follows) e ∙ rw k refl; ready = j .ready e }
+        record { rest = by-one ∙ on-verdict gone report z (judgeBlock narrow x (blockAt bytes b)) after-one (j .follows) e ∙ rw k refl; ready = j .ready e }
 
     pub through-over : gone ≡ true → report ≡ reportOf ofAll
-    through-over e = over-verdict gone report z (judgeBlock x (blockAt bytes b)) after-one (j .follows) e ∙ ap reportOf (sym by-one)
+    through-over e = over-verdict gone report z (judgeBlock narrow x (blockAt bytes b)) after-one (j .follows) e ∙ ap reportOf (sym by-one)
 
   pub through-all : (b : ℕ) (x : Running) → Through b x → b ≡ n → ofAll ≡ ended (x .progress) whole
   unfolding judgeBlocks
@@ -97,7 +105,7 @@ module _ (bytes : List ℕ) (n : ℕ) (whole : Bool) where
       t .rest ∙ rw z refl
 
 -- the verdict is the one of all whole blocks, and of whether something is left behind them
-pub of-bytes : (bytes : List ℕ) → verdict bytes ≡ ofAll bytes (length bytes / 512) (eqb (length bytes % 512) 0)
+pub of-bytes : (bytes : List ℕ) → verdict narrow bytes ≡ ofAll bytes (length bytes / 512) (eqb (length bytes % 512) 0)
 unfolding verdict
 of-bytes bytes = refl
 

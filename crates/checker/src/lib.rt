@@ -1,23 +1,26 @@
 // The log checker: a whole log in a slice of bytes, block by block, and what a caller that reads the blocks itself needs at both ends of
 // the input. A block is judged only through its contract; the report is proved to be the one of the log's definition of the verdict.
 use checker_block::Reading;
-use checker_block::fresh_head;
 use checker_block::judge_block;
 use judge::Progress;
 use judge::Report;
+use rules::Head;
 use rules::Setting;
 ghost use mathlib.Core.Path.{_≡_};
-ghost use Prim.Native.Nat.{_+_, _*_, _≤_};
+ghost use mathlib.Core.List.{List};
+ghost use Prim.Native.Nat.{ℕ, _+_, _*_, _≤_};
 ghost use lib.ListN.{length};
+ghost use Rattle.rules.specs.State.{freshHead};
+ghost use Rattle.rules.specs.Policy.{limits01, narrow};
 ghost use Rattle.log_format.specs.Bytes.{blockAt};
-ghost use Rattle.log_format.specs.Verdict.{memory, ended, unread, verdict};
+ghost use Rattle.log_format.specs.Verdict.{ended, unread, verdict};
 ghost use Rattle.judge.specs.Follow.{progressOf, reportOf};
 ghost use Rattle.checker_block.specs.Blocks.{readSoFar, Ready};
 
-// Before the first block, with buffers of zeros: 32,768 counters, 4,096 ticks and rows, 1,536 thread counters. The setting and the seeds
-// are not looked at.
+// Before the first block. The buffers may hold anything, since block 0 sets the model up in them; 32,768 counters, 4,096 ticks and rows and
+// 1,536 thread counters are enough for every setting. The setting and the seeds are not looked at.
 pub fn start() -> Reading
-    ensures { λ r. ⌜ (progressOf (r .progress) ≡ unread .progress) × Ready (readSoFar r (memory .counters) (memory .ticks) (memory .rows) (memory .threads)) ⌝ }
+    ensures { λ r. ⌜ (progressOf (r .progress) ≡ (unread limits01) .progress) × (r .head ≡ freshHead) × ((counters : List ℕ) (ticks : List ℕ) (rows : List ℕ) (threads : List ℕ) → Ready (readSoFar r counters ticks rows threads)) ⌝ }
 {
     let progress = Progress {
         blocks: 0,
@@ -36,7 +39,12 @@ pub fn start() -> Reading
         banks: 0,
         threads: 0,
     };
-    let head = fresh_head();
+    let head = Head {
+        last: 0,
+        next: 0,
+        bank: [0; 16],
+        rank: [0; 4],
+    };
     Reading {
         progress,
         setting,
@@ -83,7 +91,7 @@ fn block_at(bytes: &[u8], b: usize) -> [u8; 512]
 // The report of a log, for every list of bytes.
 // It rules out: a checker that judges half of the blocks, counts every record as opened, or accepts a log that is cut.
 pub fn judge_log(bytes: &[u8]) -> Report
-    ensures { λ r. ⌜ r ≡ reportOf (verdict (now (bytes .entry))) ⌝ }
+    ensures { λ r. ⌜ r ≡ reportOf (verdict narrow (now (bytes .entry))) ⌝ }
 {
     let mut counters = [0u16; 32768];
     let mut ticks = [0u64; 4096];

@@ -1,27 +1,25 @@
 -- A block: refused, block 0, or one with records.
-use mathlib.Core.Path.{_≡_, refl, sym, ap, _∙_}
+use mathlib.Core.Path.{_≡_, refl, sym, ap, _∙_, subst}
 use mathlib.Core.List.{List}
 use mathlib.Core.Bool.{Bool, true}
 use Prim.Native.Nat.{ℕ, _+_, _^_, _≤_, _<_}
 use native.Mathlib.Omega.{arith}
 use borrow.Author.Tests.{eq-eqb, ne-eqb}
 use Rattle.rules.specs.declared.Setting.{Setting}
-use Rattle.rules.specs.declared.Head.{Head}
-use Rattle.rules.specs.State.{State, freshHead, state}
+use Rattle.rules.specs.State.{State}
 use Rattle.log_format.specs.Refusals.{logRefusalNumber}
 use Rattle.log_format.specs.Contents.{countIn, entriesIn}
 use Rattle.log_format.specs.Blocks.{blockRefusal}
-use Rattle.log_format.specs.Verdict.{Running, Step, over, on, andThen, nextBlock, memory, judgeRecords, judgeStart, judgeLater, judgeSound, judgeBlock}
+use Rattle.log_format.specs.Verdict.{Running, Step, over, on, andThen, nextBlock, judgeRecords, judgeStart, judgeLater, judgeSound, judgeBlock}
 use Rattle.log_format.proofs.Steps.{sound-laid-out, later-count}
 use Rattle.judge.specs.declared.Progress.{Progress}
 use Rattle.judge.specs.declared.Report.{Report}
 use Rattle.judge.specs.declared.Report.the-variants.{Refused}
 use Rattle.judge.specs.declared.After.{After}
 use Rattle.judge.specs.Follow.{running, Follows, Judged}
-use Rattle.checker_block.specs.declared.Next.{Next}
-use Rattle.checker_block.specs.Blocks.{readSoFar, Ready, JudgedBlock}
+use Rattle.checker_block.specs.Blocks.{Ready, JudgedBlock}
 use Rattle.checker_block.proofs.Steps.{not-both}
-
+use Rattle.rules.specs.Policy.{narrow}
 -- ---- a block with records
 
 -- the progress of a new block, of whose records none is counted, and of one that is read
@@ -36,19 +34,18 @@ follows-next b r x z (over v) h e = h
 follows-next b r x z (on y) h e = (h .0, ap nextBlock (h .1) ∙ sym e)
 
 pub later-judged : (s : Setting) (seeds block : List ℕ) (p : Progress) (st left : State) (r : After) → Ready (running p s seeds st) → 1 ≤ p .blocks → p .blocks < 2 ^ 32
-    → Judged s seeds (newBlock p) 20 r left (judgeRecords (running (newBlock p) s seeds st) (entriesIn block))
-    → JudgedBlock (p .blocks) (r .over) (r .report) (running (readBlock (p .blocks) (r .progress)) s seeds left) (judgeLater (running p s seeds st) block)
+    → Judged s seeds (newBlock p) 20 r left (judgeRecords narrow (running (newBlock p) s seeds st) (entriesIn block))
+    → JudgedBlock (p .blocks) (r .over) (r .report) (running (readBlock (p .blocks) (r .progress)) s seeds left) (judgeLater narrow (running p s seeds st) block)
 unfolding judgeLater
 later-judged s seeds block p st left r ok some few j =
     record {
       follows =
           follows-next (r .over) (r .report) (running (r .progress) s seeds left) (running (readBlock (p .blocks) (r .progress)) s seeds left)
-          (judgeRecords (running (newBlock p) s seeds st) (entriesIn block)) (j .follows) (rw (j .blocks) refl);
+          (judgeRecords narrow (running (newBlock p) s seeds st) (entriesIn block)) (j .follows) (rw (j .blocks) refl);
       ready = λ _. record {
         blocks = omega arith;
         records = omega (arith, ok .records, j .records);
         opened = omega (arith, ok .opened, j .opened);
-        start = λ z. absurd (omega arith);
         model = λ _. (ok .model some .0, j .sound);
       };
       moved = λ _. refl;
@@ -61,7 +58,7 @@ module _ (x : Running) (block : List ℕ) where
   refusal = logRefusalNumber (blockRefusal block (x .progress .blocks) (x .progress .last))
 
   pub block-refused : (code : ℕ) (z : Running) → code ≡ refusal → (code ≡ 0 → ⊥)
-      → JudgedBlock (x .progress .blocks) true (Refused code (x .progress .blocks)) z (judgeBlock x block)
+      → JudgedBlock (x .progress .blocks) true (Refused code (x .progress .blocks)) z (judgeBlock narrow x block)
   unfolding judgeBlock
   block-refused code z e n =
       record {
@@ -70,29 +67,20 @@ module _ (x : Running) (block : List ℕ) where
         moved = λ k. absurd (not-both true refl k);
       }
 
-  pub block-start : refusal ≡ 0 → x .progress .blocks ≡ 0 → judgeBlock x block ≡ judgeStart block
+  block-start : refusal ≡ 0 → x .progress .blocks ≡ 0 → judgeBlock narrow x block ≡ judgeStart narrow x block
   unfolding judgeBlock judgeSound
   block-start e z = rw (eq-eqb refusal 0 e, eq-eqb (x .progress .blocks) 0 z)
 
-  pub block-later : refusal ≡ 0 → (x .progress .blocks ≡ 0 → ⊥) → judgeBlock x block ≡ judgeLater x block
+  pub block-started : (ended : Bool) (report : Report) (z : Running) → refusal ≡ 0 → x .progress .blocks ≡ 0
+      → JudgedBlock 0 ended report z (judgeStart narrow x block) → JudgedBlock (x .progress .blocks) ended report z (judgeBlock narrow x block)
+  block-started ended report z e n j =
+      subst (λ y. JudgedBlock (x .progress .blocks) ended report z y) (sym (block-start e n))
+      (subst (λ k. JudgedBlock k ended report z (judgeStart narrow x block)) (sym n) j)
+
+  pub block-later : refusal ≡ 0 → (x .progress .blocks ≡ 0 → ⊥) → judgeBlock narrow x block ≡ judgeLater narrow x block
   unfolding judgeBlock judgeSound
   block-later e z = rw (eq-eqb refusal 0 e, ne-eqb (x .progress .blocks) 0 z)
 
   -- a sound block with records has at most 20
   pub block-count : refusal ≡ 0 → (x .progress .blocks ≡ 0 → ⊥) → countIn block ≤ 20
   block-count e z = later-count block (x .progress .blocks) (x .progress .last) (omega arith) (sound-laid-out block (x .progress .blocks) (x .progress .last) e) .1
-
--- block 0 leaves the memory of zeros, with a fresh head
-fresh-head-memory : (h : Head) (st : State) → st ≡ memory → h ≡ freshHead → state h (st .counters) (st .ticks) (st .rows) (st .threads) ≡ memory
-unfolding memory
-fresh-head-memory h st e eh = λ i. state (eh i) (e i .counters) (e i .ticks) (e i .rows) (e i .threads)
-
-pub start-memory : (x : Running) (block : List ℕ) (r : Next) → Ready x
-    → logRefusalNumber (blockRefusal block (x .progress .blocks) (x .progress .last)) ≡ 0
-    → x .progress .blocks ≡ 0
-    → r .reading .head ≡ freshHead
-    → JudgedBlock 0 (r .over) (r .report) (running (r .reading .progress) (r .reading .setting) (r .reading .seeds) memory) (judgeStart block)
-    → JudgedBlock (x .progress .blocks) (r .over) (r .report)
-    (readSoFar (r .reading) (x .state .counters) (x .state .ticks) (x .state .rows) (x .state .threads)) (judgeBlock x block)
-start-memory x block r ok e z eh j =
-    rw (block-start x block e z, z, fresh-head-memory (r .reading .head) (x .state) (ok .start z) eh) j

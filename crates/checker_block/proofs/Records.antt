@@ -17,15 +17,15 @@ use Rattle.judge.specs.declared.Report.{Report}
 use Rattle.judge.specs.declared.After.{After}
 use Rattle.judge.specs.Follow.{running, Follows, Judged}
 use Rattle.checker_block.proofs.Steps.{over-then, on-then}
-
+use Rattle.rules.specs.Policy.{narrow}
 module _ (s : Setting) (seeds block : List ℕ) (p : Progress) (n : ℕ) (start : State) where
   -- the step of all n records
   abbrev pub whole : Step
-  whole = judgeRecords (running p s seeds start) (entriesFrom block 0 n)
+  whole = judgeRecords narrow (running p s seeds start) (entriesFrom block 0 n)
 
   -- after k records that agree: what the rest gives is what all give
   pub record Going (k : ℕ) (q : Progress) (st : State) : Type 0 where
-    pub rest : whole ≡ judgeRecords (running q s seeds st) (entriesFrom block k (n - k))
+    pub rest : whole ≡ judgeRecords narrow (running q s seeds st) (entriesFrom block k (n - k))
     pub sound : Sound s st
     pub blocks : q .blocks ≡ p .blocks
     pub records : q .records ≤ p .records + k
@@ -38,12 +38,12 @@ module _ (s : Setting) (seeds block : List ℕ) (p : Progress) (n : ℕ) (start 
       record { rest = rw z refl; sound = ok; blocks = refl; records = omega arith; opened = omega arith; last = omega arith }
 
   module _ (k : ℕ) (q : Progress) (st : State) (g : Going k q st) (more : k < n) (e : Entry) (is : e ≡ entryIn block k) (r : After) (left : State)
-      (j : Judged s seeds q 1 r left (judgeRecord (running q s seeds st) e)) where
+      (j : Judged s seeds q 1 r left (judgeRecord narrow (running q s seeds st) e)) where
     -- the rest, by the step of record k
     after-one : Running → Step
-    after-one y = judgeRecords y (entriesFrom block (k + 1) (n - k - 1))
+    after-one y = judgeRecords narrow y (entriesFrom block (k + 1) (n - k - 1))
 
-    follows-one : Follows (r .over) (r .report) (running (r .progress) s seeds left) (judgeRecord (running q s seeds st) (entryIn block k))
+    follows-one : Follows (r .over) (r .report) (running (r .progress) s seeds left) (judgeRecord narrow (running q s seeds st) (entryIn block k))
     follows-one = rw is at (j .follows)
 
     pub going-more : r .over ≡ false → Going (k + 1) (r .progress) left
@@ -53,8 +53,8 @@ module _ (s : Setting) (seeds block : List ℕ) (p : Progress) (n : ℕ) (start 
         record {
           rest =
               g .rest
-              ∙ records-step (running q s seeds st) block k (n - k) (omega arith)
-              ∙ on-then (r .over) (r .report) (running (r .progress) s seeds left) (judgeRecord (running q s seeds st) (entryIn block k)) after-one follows-one e
+              ∙ records-step narrow (running q s seeds st) block k (n - k) (omega arith)
+              ∙ on-then (r .over) (r .report) (running (r .progress) s seeds left) (judgeRecord narrow (running q s seeds st) (entryIn block k)) after-one follows-one e
               ∙ rw z refl;
           sound = j .sound;
           blocks = j .blocks ∙ g .blocks;
@@ -68,9 +68,9 @@ module _ (s : Setting) (seeds block : List ℕ) (p : Progress) (n : ℕ) (start 
     going-over e m =
         record {
           follows =
-              rw (g .rest ∙ records-step (running q s seeds st) block k (n - k) (omega arith))
+              rw (g .rest ∙ records-step narrow (running q s seeds st) block k (n - k) (omega arith))
               (over-then (r .over) (r .report) (running (r .progress) s seeds left) (running (r .progress) s seeds left)
-              (judgeRecord (running q s seeds st) (entryIn block k)) after-one follows-one e);
+              (judgeRecord narrow (running q s seeds st) (entryIn block k)) after-one follows-one e);
           sound = j .sound;
           blocks = j .blocks ∙ g .blocks;
           records = omega arith;

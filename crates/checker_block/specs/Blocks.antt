@@ -8,7 +8,7 @@ use Rattle.rules.specs.Setting.{settingRefusal}
 use Rattle.rules.specs.Policy.{limits01}
 use Rattle.rules.specs.Tested.{Sound}
 use Rattle.rules.specs.State.{state}
-use Rattle.log_format.specs.Verdict.{Running, Step, memory}
+use Rattle.log_format.specs.Verdict.{Running, Step}
 use Rattle.judge.specs.declared.Report.{Report}
 use Rattle.checker_block.specs.declared.Reading.{Reading}
 use Rattle.judge.specs.Follow.{running, Follows}
@@ -17,13 +17,12 @@ use Rattle.judge.specs.Follow.{running, Follows}
 abbrev pub readSoFar : Reading → List ℕ → List ℕ → List ℕ → List ℕ → Running
 readSoFar x counters ticks rows threads = running (x .progress) (x .setting) (x .seeds) (state (x .head) counters ticks rows threads)
 
--- what the next block can count on: before block 0 the memory is the one of the definition, all zeros; after it the setting is accepted
--- and the state passes the tests of 6 and 7. A block has at most 20 records, and a number of 32 bits.
+-- what the next block can count on: after block 0 the setting is accepted and the state passes the tests of 6 and 7; before it the memory may
+-- be any. A block has at most 20 records, and a number of 32 bits.
 pub record Ready (x : Running) : Type 0 where
   pub blocks : x .progress .blocks ≤ 2 ^ 32
   pub records : x .progress .records ≤ 20 * x .progress .blocks
   pub opened : x .progress .opened ≤ 20 * x .progress .blocks
-  pub start : x .progress .blocks ≡ 0 → x .state ≡ memory
   pub model : 1 ≤ x .progress .blocks → (settingRefusal limits01 (x .setting) (x .seeds) ≡ none) × Sound (x .setting) (x .state)
 
 -- a block after so many others is judged: the step of the definition; where the log goes on, one block more is read and the next can be judged

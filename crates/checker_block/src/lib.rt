@@ -10,11 +10,11 @@ ghost use mathlib.Core.Path.{_≡_};
 ghost use Prim.Native.Nat.{_^_, _≤_, _<_};
 ghost use Rattle.rules.specs.Answers.{none};
 ghost use Rattle.rules.specs.Setting.{settingRefusal};
-ghost use Rattle.rules.specs.State.{freshHead, state};
-ghost use Rattle.rules.specs.Policy.{limits01};
+ghost use Rattle.rules.specs.State.{state};
+ghost use Rattle.rules.specs.Policy.{limits01, narrow};
 ghost use Rattle.rules.specs.Tested.{Sound};
 ghost use Rattle.log_format.specs.Contents.{countIn, entriesIn};
-ghost use Rattle.log_format.specs.Verdict.{memory, judgeRecords, judgeStart, judgeLater, judgeBlock};
+ghost use Rattle.log_format.specs.Verdict.{judgeRecords, judgeStart, judgeLater, judgeBlock};
 ghost use Rattle.judge.specs.Follow.{running, Room, Judged};
 ghost use Rattle.checker_block.specs.Blocks.{readSoFar, Ready, JudgedBlock};
 
@@ -46,7 +46,7 @@ fn judge_records(
     p: Progress,
 ) -> After
     requires { ⌜ (settingRefusal limits01 s (now seeds) ≡ none) × Sound s (state h (now counters) (now ticks) (now rows) (now threads)) × Room p 20 × (countIn (now block) ≤ 20) ⌝ }
-    ensures { λ r. ⌜ Judged s (now (seeds .entry)) p 20 r (state (r .head) (now (counters .exit)) (now (ticks .exit)) (now (rows .exit)) (now (threads .exit))) (judgeRecords (running p s (now (seeds .entry)) (state h (now (counters .entry)) (now (ticks .entry)) (now (rows .entry)) (now (threads .entry)))) (entriesIn (now (block .entry)))) ⌝ }
+    ensures { λ r. ⌜ Judged s (now (seeds .entry)) p 20 r (state (r .head) (now (counters .exit)) (now (ticks .exit)) (now (rows .exit)) (now (threads .exit))) (judgeRecords narrow (running p s (now (seeds .entry)) (state h (now (counters .entry)) (now (ticks .entry)) (now (rows .entry)) (now (threads .entry)))) (entriesIn (now (block .entry)))) ⌝ }
 {
     let n = log_read::contents::count(block) as usize;
     let mut progress = p;
@@ -85,7 +85,7 @@ fn judge_later(
     block: &[u8; 512],
 ) -> Next
     requires { ⌜ Ready (readSoFar x (now counters) (now ticks) (now rows) (now threads)) × (1 ≤ x .progress .blocks) × (x .progress .blocks < 2 ^ 32) × (countIn (now block) ≤ 20) ⌝ }
-    ensures { λ r. ⌜ JudgedBlock (x .progress .blocks) (r .over) (r .report) (readSoFar (r .reading) (now (counters .exit)) (now (ticks .exit)) (now (rows .exit)) (now (threads .exit))) (judgeLater (readSoFar x (now (counters .entry)) (now (ticks .entry)) (now (rows .entry)) (now (threads .entry))) (now (block .entry))) ⌝ }
+    ensures { λ r. ⌜ JudgedBlock (x .progress .blocks) (r .over) (r .report) (readSoFar (r .reading) (now (counters .exit)) (now (ticks .exit)) (now (rows .exit)) (now (threads .exit))) (judgeLater narrow (readSoFar x (now (counters .entry)) (now (ticks .entry)) (now (rows .entry)) (now (threads .entry))) (now (block .entry))) ⌝ }
 {
     let p = x.progress;
     let setting = x.setting;
@@ -129,26 +129,23 @@ fn judge_later(
     }
 }
 
-// The head after set-up.
-pub fn fresh_head() -> Head
-    ensures { λ r. ⌜ r ≡ freshHead ⌝ }
-{
-    Head {
-        last: 0,
-        next: 0,
-        bank: [0; 16],
-        rank: [0; 4],
-    }
-}
-
-// Block 0: its setting and seeds. Set-up leaves the memory of zeros as it is.
-fn judge_start(block: &[u8; 512]) -> Next
-    ensures { λ r. ⌜ (r .reading .head ≡ freshHead) × JudgedBlock 0 (r .over) (r .report) (running (r .reading .progress) (r .reading .setting) (r .reading .seeds) memory) (judgeStart (now (block .entry))) ⌝ }
+// Block 0: set-up with its setting and seeds.
+fn judge_start(
+    x: Reading,
+    counters: &mut [u16],
+    ticks: &mut [u64],
+    rows: &mut [u32],
+    threads: &mut [u32],
+    block: &[u8; 512],
+) -> Next
+    ensures { λ r. ⌜ JudgedBlock 0 (r .over) (r .report) (readSoFar (r .reading) (now (counters .exit)) (now (ticks .exit)) (now (rows .exit)) (now (threads .exit))) (judgeStart narrow (readSoFar x (now (counters .entry)) (now (ticks .entry)) (now (rows .entry)) (now (threads .entry))) (now (block .entry))) ⌝ }
 {
     let s = log_read::contents::setting(block);
     let seeds = log_read::contents::seeds(block);
-    let code = setting::refusal(s, &seeds, 32768, 4096);
-    let head = fresh_head();
+    let h = x.head;
+    let q = throttle::setup(s, &seeds, h, counters, ticks, rows, threads);
+    let code = q.code;
+    let head = q.head;
     let progress = Progress {
         blocks: 1,
         records: 0,
@@ -180,7 +177,7 @@ pub fn judge_block(
     block: &[u8; 512],
 ) -> Next
     requires { ⌜ Ready (readSoFar x (now counters) (now ticks) (now rows) (now threads)) ⌝ }
-    ensures { λ r. ⌜ JudgedBlock (x .progress .blocks) (r .over) (r .report) (readSoFar (r .reading) (now (counters .exit)) (now (ticks .exit)) (now (rows .exit)) (now (threads .exit))) (judgeBlock (readSoFar x (now (counters .entry)) (now (ticks .entry)) (now (rows .entry)) (now (threads .entry))) (now (block .entry))) ⌝ }
+    ensures { λ r. ⌜ JudgedBlock (x .progress .blocks) (r .over) (r .report) (readSoFar (r .reading) (now (counters .exit)) (now (ticks .exit)) (now (rows .exit)) (now (threads .exit))) (judgeBlock narrow (readSoFar x (now (counters .entry)) (now (ticks .entry)) (now (rows .entry)) (now (threads .entry))) (now (block .entry))) ⌝ }
 {
     let p = x.progress;
     let code = log_read::block::refusal(block, p.blocks, p.last);
@@ -195,7 +192,7 @@ pub fn judge_block(
         };
     }
     if p.blocks == 0 {
-        return judge_start(block);
+        return judge_start(x, counters, ticks, rows, threads, block);
     }
     judge_later(x, counters, ticks, rows, threads, block)
 }

@@ -10,10 +10,10 @@ use Rattle.rules.specs.declared.Head.{Head}
 use Rattle.rules.specs.declared.Answer.{Answer}
 use Rattle.rules.specs.Answers.{answerNumber, answerWait}
 use Rattle.rules.specs.State.{State}
-use Rattle.rules.specs.Policy.{document01}
+use Rattle.rules.specs.Policy.{narrow}
 use Rattle.rules.specs.Calls.{request, done, Reply, answered, finished, Outcome, returnCode, step}
 use Rattle.rules.specs.Tested.{Sound}
-use Rattle.throttle.specs.Told.{Told, Over}
+use Rattle.sound.specs.Told.{Told, Over}
 use Rattle.log_format.specs.declared.Entry.{Entry}
 use Rattle.log_format.specs.Verdict.{Step, over, on, openedBy, counted, differsHere, judgeRecord}
 use Rattle.log_format.proofs.Records.{outcomeOf}
@@ -21,7 +21,6 @@ use Rattle.log_format.proofs.Replies.{call-request, call-done, record-refused, 
 use Rattle.judge.specs.declared.Progress.{Progress}
 use Rattle.judge.specs.declared.Report.the-variants.{Refused, Differs}
 use Rattle.judge.specs.Follow.{running, Follows, refusedBy, countedOne, settled, Judged}
-
 module _ (s : Setting) (seeds : List ℕ) (p : Progress) (st : State) (e : Entry) where
   -- a record counted and compared follows the step of the reply with this number and wait tick
   settled-follows : (number wait opened : ℕ) (h : Head) (left : State) (y : Reply) → opened ≡ openedBy y
@@ -53,10 +52,10 @@ module _ (s : Setting) (seeds : List ℕ) (p : Progress) (st : State) (e : Entry
       }
 
   -- a call that the model refuses
-  refused-judged : (code : ℕ) (h : Head) (left : State) → code ≡ returnCode (outcomeOf s seeds st e .reply) → (code ≡ 0 → ⊥) → Sound s left
-      → Judged s seeds p 1 (refusedBy code p h) left (judgeRecord (running p s seeds st) e)
+  refused-judged : (code : ℕ) (h : Head) (left : State) → code ≡ returnCode (outcomeOf narrow s seeds st e .reply) → (code ≡ 0 → ⊥) → Sound s left
+      → Judged s seeds p 1 (refusedBy code p h) left (judgeRecord narrow (running p s seeds st) e)
   refused-judged code h left ec n ok =
-      let k = record-refused (running p s seeds st) e (λ z. n (ec ∙ z)) in
+      let k = record-refused narrow (running p s seeds st) e (λ z. n (ec ∙ z)) in
       record {
         follows = rw (k .2) (refl, ap (λ (c : ℕ). Refused c (p .blocks)) (ec ∙ sym (k .1)));
         sound = ok;
@@ -69,38 +68,38 @@ module _ (s : Setting) (seeds : List ℕ) (p : Progress) (st : State) (e : Entry
   -- ---- a request
 
   module _ (kind : e .kind ≡ 0) (code : ℕ) (a : Answer) (left : State)
-      (told : Told s code a left (step document01 s seeds st (request (e .tick) (e .bank) (e .thread) (e .row)))) where
-    request-outcome : step document01 s seeds st (request (e .tick) (e .bank) (e .thread) (e .row)) ≡ outcomeOf s seeds st e
-    request-outcome = ap (step document01 s seeds st) (sym (call-request e kind))
+      (told : Told s code a left (step narrow s seeds st (request (e .tick) (e .bank) (e .thread) (e .row)))) where
+    request-outcome : step narrow s seeds st (request (e .tick) (e .bank) (e .thread) (e .row)) ≡ outcomeOf narrow s seeds st e
+    request-outcome = ap (step narrow s seeds st) (sym (call-request e kind))
 
-    pub request-refused : (h : Head) → (code ≡ 0 → ⊥) → Judged s seeds p 1 (refusedBy code p h) left (judgeRecord (running p s seeds st) e)
+    pub request-refused : (h : Head) → (code ≡ 0 → ⊥) → Judged s seeds p 1 (refusedBy code p h) left (judgeRecord narrow (running p s seeds st) e)
     request-refused h n =
         refused-judged code h left (told .code-is ∙ ap (λ (o : Outcome). returnCode (o .reply)) request-outcome) n (told .sound)
 
     pub request-settled : (h : Head) (number wait opened : ℕ) → code ≡ 0 → number ≡ answerNumber a → wait ≡ answerWait a → opened ≤ 1
         → opened ≡ cond (eqb number 0) 1 0
-        → Judged s seeds p 1 (settled p e number wait opened h) left (judgeRecord (running p s seeds st) e)
+        → Judged s seeds p 1 (settled p e number wait opened h) left (judgeRecord narrow (running p s seeds st) e)
     request-settled h number wait opened z en ew most eo =
-        let o = outcomeOf s seeds st e in
+        let o = outcomeOf narrow s seeds st e in
         let r : o .reply ≡ answered a = ap (λ (x : Outcome). x .reply) (sym request-outcome) ∙ told .answer-is z in
         let l : left ≡ o .state = told .state-is ∙ ap (λ (x : Outcome). x .state) request-outcome in
-        settled-judged number wait opened h left (answered a) (judgeRecord (running p s seeds st) e) most (eo ∙ rw (opened-number a, en)) (told .sound)
-        (rw (l, en, ew) (record-answered (running p s seeds st) e a r))
+        settled-judged number wait opened h left (answered a) (judgeRecord narrow (running p s seeds st) e) most (eo ∙ rw (opened-number a, en)) (told .sound)
+        (rw (l, en, ew) (record-answered narrow (running p s seeds st) e a r))
 
   -- ---- a done
 
-  module _ (kind : 1 ≤ e .kind) (code : ℕ) (left : State) (told : Over s code left (step document01 s seeds st (done (e .tick) (e .bank) (e .thread)))) where
-    done-outcome : step document01 s seeds st (done (e .tick) (e .bank) (e .thread)) ≡ outcomeOf s seeds st e
-    done-outcome = ap (step document01 s seeds st) (sym (call-done e kind))
+  module _ (kind : 1 ≤ e .kind) (code : ℕ) (left : State) (told : Over s code left (step narrow s seeds st (done (e .tick) (e .bank) (e .thread)))) where
+    done-outcome : step narrow s seeds st (done (e .tick) (e .bank) (e .thread)) ≡ outcomeOf narrow s seeds st e
+    done-outcome = ap (step narrow s seeds st) (sym (call-done e kind))
 
-    pub done-refused : (h : Head) → (code ≡ 0 → ⊥) → Judged s seeds p 1 (refusedBy code p h) left (judgeRecord (running p s seeds st) e)
+    pub done-refused : (h : Head) → (code ≡ 0 → ⊥) → Judged s seeds p 1 (refusedBy code p h) left (judgeRecord narrow (running p s seeds st) e)
     done-refused h n =
         refused-judged code h left (told .code-is ∙ ap (λ (o : Outcome). returnCode (o .reply)) done-outcome) n (told .sound)
 
-    pub done-settled : (h : Head) → code ≡ 0 → Judged s seeds p 1 (settled p e 0 0 0 h) left (judgeRecord (running p s seeds st) e)
+    pub done-settled : (h : Head) → code ≡ 0 → Judged s seeds p 1 (settled p e 0 0 0 h) left (judgeRecord narrow (running p s seeds st) e)
     done-settled h z =
-        let o = outcomeOf s seeds st e in
+        let o = outcomeOf narrow s seeds st e in
         let r : o .reply ≡ finished = ap (λ (x : Outcome). x .reply) (sym done-outcome) ∙ told .finished-is z in
         let l : left ≡ o .state = told .state-is ∙ ap (λ (x : Outcome). x .state) done-outcome in
-        settled-judged 0 0 0 h left finished (judgeRecord (running p s seeds st) e) (omega arith) refl (told .sound)
-        (rw l (record-finished (running p s seeds st) e r))
+        settled-judged 0 0 0 h left finished (judgeRecord narrow (running p s seeds st) e) (omega arith) refl (told .sound)
+        (rw l (record-finished narrow (running p s seeds st) e r))

@@ -11,7 +11,7 @@ ghost use Prim.Native.Nat.{_≤_};
 ghost use lib.Dec.{eqb};
 ghost use Rattle.rules.specs.Answers.{none};
 ghost use Rattle.rules.specs.Setting.{settingRefusal};
-ghost use Rattle.rules.specs.Policy.{limits01};
+ghost use Rattle.rules.specs.Policy.{limits01, narrow};
 ghost use Rattle.rules.specs.Tested.{Sound};
 ghost use Rattle.rules.specs.State.{state};
 ghost use Rattle.log_format.specs.Verdict.{judgeRecord};
@@ -88,9 +88,9 @@ fn judge_request(
     e: Entry,
 ) -> After
     requires { ⌜ (settingRefusal limits01 s (now seeds) ≡ none) × Sound s (state h (now counters) (now ticks) (now rows) (now threads)) × Room p 1 × (e .kind ≡ 0) ⌝ }
-    ensures { λ r. ⌜ Judged s (now (seeds .entry)) p 1 r (state (r .head) (now (counters .exit)) (now (ticks .exit)) (now (rows .exit)) (now (threads .exit))) (judgeRecord (running p s (now (seeds .entry)) (state h (now (counters .entry)) (now (ticks .entry)) (now (rows .entry)) (now (threads .entry)))) e) ⌝ }
+    ensures { λ r. ⌜ Judged s (now (seeds .entry)) p 1 r (state (r .head) (now (counters .exit)) (now (ticks .exit)) (now (rows .exit)) (now (threads .exit))) (judgeRecord narrow (running p s (now (seeds .entry)) (state h (now (counters .entry)) (now (ticks .entry)) (now (rows .entry)) (now (threads .entry)))) e) ⌝ }
 {
-    let q = throttle::sound::request(
+    let q = throttle::request(
         s,
         seeds,
         h,
@@ -109,8 +109,8 @@ fn judge_request(
         return refused(code, p, head);
     }
     let answer = q.answer;
-    let number = throttle::words::answer_number(answer);
-    let wait = throttle::words::answer_wait(answer);
+    let number = throttle::answer_number(answer);
+    let wait = throttle::answer_wait(answer);
     settle(p, e, number, wait, opened_by(number), head)
 }
 
@@ -127,9 +127,9 @@ fn judge_done(
     e: Entry,
 ) -> After
     requires { ⌜ (settingRefusal limits01 s (now seeds) ≡ none) × Sound s (state h (now counters) (now ticks) (now rows) (now threads)) × Room p 1 × (1 ≤ e .kind) ⌝ }
-    ensures { λ r. ⌜ Judged s (now (seeds .entry)) p 1 r (state (r .head) (now (counters .exit)) (now (ticks .entry)) (now (rows .entry)) (now (threads .exit))) (judgeRecord (running p s (now (seeds .entry)) (state h (now (counters .entry)) (now (ticks .entry)) (now (rows .entry)) (now (threads .entry)))) e) ⌝ }
+    ensures { λ r. ⌜ Judged s (now (seeds .entry)) p 1 r (state (r .head) (now (counters .exit)) (now (ticks .entry)) (now (rows .entry)) (now (threads .exit))) (judgeRecord narrow (running p s (now (seeds .entry)) (state h (now (counters .entry)) (now (ticks .entry)) (now (rows .entry)) (now (threads .entry)))) e) ⌝ }
 {
-    let q = throttle::sound::done(
+    let q = throttle::done(
         s,
         seeds,
         h,
@@ -162,7 +162,7 @@ pub fn judge_record(
     e: Entry,
 ) -> After
     requires { ⌜ (settingRefusal limits01 s (now seeds) ≡ none) × Sound s (state h (now counters) (now ticks) (now rows) (now threads)) × Room p 1 ⌝ }
-    ensures { λ r. ⌜ Judged s (now (seeds .entry)) p 1 r (state (r .head) (now (counters .exit)) (now (ticks .exit)) (now (rows .exit)) (now (threads .exit))) (judgeRecord (running p s (now (seeds .entry)) (state h (now (counters .entry)) (now (ticks .entry)) (now (rows .entry)) (now (threads .entry)))) e) ⌝ }
+    ensures { λ r. ⌜ Judged s (now (seeds .entry)) p 1 r (state (r .head) (now (counters .exit)) (now (ticks .exit)) (now (rows .exit)) (now (threads .exit))) (judgeRecord narrow (running p s (now (seeds .entry)) (state h (now (counters .entry)) (now (ticks .entry)) (now (rows .entry)) (now (threads .entry)))) e) ⌝ }
 {
     if e.kind == 0 {
         return judge_request(s, seeds, h, counters, ticks, rows, threads, p, e);

@@ -8,6 +8,7 @@ use lib.ListN.{length, replicate}
 use Rattle.rules.specs.declared.Cause.the-variants.{Row}
 use Rattle.rules.specs.declared.Answer.the-variants.{Opened, Wait}
 use Rattle.rules.specs.Cells.{All}
+use Rattle.rules.specs.Policy.{narrow}
 use Rattle.rules.specs.Samples.{house, S}
 use Rattle.rules.specs.Setting.{settingOf, historyLength, rowBound, fieldsInRange, seedsInRange, settingRefusal}
 use Rattle.rules.specs.State.{tooShort, freshHead, fresh}
@@ -34,10 +35,10 @@ writable : (tick answer wait : ℕ) → tick < 2 ^ 64 → wait < 2 ^ 64 → answ
 writable tick answer wait t w a =
     record { tick = t; wait = w; row = omega arith; bank = omega arith; thread = omega arith; kind = omega arith; answer = a }
 
-agreeing : (es : List Entry) → All Writable es → length es ≤ 20 * (2 ^ 32 - 1) → Decided es (rulesSay S house es)
-    → verdict (logS es) ≡ judged (length es) (rulesOpen S house es) agrees
+agreeing : (es : List Entry) → All Writable es → length es ≤ 20 * (2 ^ 32 - 1) → Decided es (rulesSay narrow S house es)
+    → verdict narrow (logS es) ≡ judged (length es) (rulesOpen narrow S house es) agrees
 unfolding logS settingOf house historyLength rowBound fieldsInRange seedsInRange settingRefusal
-agreeing es w few d = theorems .writtenAgrees (replicate 512 0) (40 ∷ 1 ∷ 4 ∷ 2 ∷ 6 ∷ 10 ∷ 4 ∷ 1 ∷ 1 ∷ []) house es refl refl w few d
+agreeing es w few d = theorems .writtenAgrees narrow (omega arith) (replicate 512 0) (40 ∷ 1 ∷ 4 ∷ 2 ∷ 6 ∷ 10 ∷ 4 ∷ 1 ∷ 1 ∷ []) house es refl refl w few d
 
 -- the four records, and what the rules say of them
 records : List Entry
@@ -46,11 +47,11 @@ records = asks 0 0 0 ∷ asks 1 0 0 ∷ asks 2 3 7 ∷ asks 7 0 0 ∷ []
 said : List Reply
 said = answered Opened ∷ answered Opened ∷ answered (Wait Row 7) ∷ answered Opened ∷ []
 
-said-is : rulesSay S house records ≡ said
-unfolding records said house historyLength rowBound fieldsInRange seedsInRange settingRefusal tooShort freshHead fresh turnedCounters turnedThreads movedHead turned hash places estimate raised named counted nextPlace back neverRises memoryOk rowFree quotaDown passesAt waitTick decide activatedHead activatedThreads activated setupRefusal callRefusal doneRefusal unlessRefused requested reported step memory
+said-is : rulesSay narrow S house records ≡ said
+unfolding records said settingOf house historyLength rowBound fieldsInRange seedsInRange settingRefusal tooShort freshHead fresh turnedCounters turnedThreads movedHead turned hash places estimate raised named counted nextPlace back neverRises memoryOk rowFree quotaDown passesAt waitTick decide activatedHead activatedThreads activated setupRefusal callRefusal doneRefusal unlessRefused requested reported step memory
 said-is = refl
 
-four : verdict (logS (asks 0 0 0 ∷ asks 1 0 0 ∷ asks 2 3 7 ∷ asks 7 0 0 ∷ [])) ≡ judged 4 3 agrees
+four : verdict narrow (logS (asks 0 0 0 ∷ asks 1 0 0 ∷ asks 2 3 7 ∷ asks 7 0 0 ∷ [])) ≡ judged 4 3 agrees
 unfolding records said
 four =
     let w : All Writable records = (
@@ -67,7 +68,7 @@ four =
     agreeing records w (omega arith) (subst (λ (rs : List Reply). Decided records rs) (sym said-is) d)
     ∙ ap (λ (rs : List Reply). judged 4 (length (activations (callsOf records) rs)) agrees) said-is
 
-start : verdict (logS []) ≡ judged 0 0 agrees
+start : verdict narrow (logS []) ≡ judged 0 0 agrees
 start = agreeing [] tt (omega arith) tt
 
 pub cases : Cases

@@ -8,17 +8,18 @@ use native.Mathlib.Omega.{arith}
 use borrow.Author.Tests.{eq-eqb, ne-eqb}
 use lib.Dec.{T, eqb, eqb→eq}
 use Rattle.rules.specs.declared.Setting.{Setting}
+use Rattle.rules.specs.declared.Limits.{Limits}
 use Rattle.rules.specs.declared.Answer.{Answer}
 use Rattle.rules.specs.declared.Answer.the-variants.{Opened, Wait, Quota}
 use Rattle.rules.specs.Answers.{Refusal, none, refusalNumber, answerNumber}
 use Rattle.rules.specs.Setting.{seedsInRange}
-use Rattle.rules.specs.State.{State}
+use Rattle.rules.specs.State.{State, fresh}
 use Rattle.rules.specs.Clock.{movedHead, turned}
 use Rattle.rules.specs.Hash.{places}
 use Rattle.rules.specs.Policy.{Policy}
 use Rattle.rules.specs.Decision.{quotaRule, bankRule, rankRule, rowRule, waitTick, firstFailing, decide, activated}
 use Rattle.rules.specs.Tested.{Long, Taken}
-use Rattle.rules.specs.Calls.{Call, request, done, index, refused, answered, Outcome, outcome, unlessRefused, afterAnswer, requested, reported, indexShown, callTick, callBank, callThread, performed, refusalOf, step, replies, after, Activation, activationOf, activations}
+use Rattle.rules.specs.Calls.{Call, request, done, index, refused, answered, finished, returnCode, setup, setupRefusal, Outcome, outcome, unlessRefused, afterAnswer, requested, reported, indexShown, callTick, callBank, callThread, performed, refusalOf, step, replies, after, Activation, activationOf, activations}
 use Rattle.rules.specs.Moves.{Owned, Move, clock, activate, renew, Reseeds, SameParts, AllAllowed, movedBy, madeBy, Moves}
 use Rattle.rules.proofs.Tests.{holds}
 use Rattle.rules.proofs.Accept.{number-none, call-taken}
@@ -57,6 +58,17 @@ unless-taken r st o e = rw (eq-eqb (refusalNumber r) 0 e)
 pub unless-refused : (r : Refusal) (st : State) (o : Outcome) → refusalNumber r ≢ 0 → unlessRefused r st o ≡ outcome (refused r) st
 unfolding unlessRefused
 unless-refused r st o h = rw (ne-eqb (refusalNumber r) 0 h)
+
+-- the number that set-up returns, and the state that it leaves where it is not refused
+pub setup-code : (m : Limits) (s : Setting) (seeds : List ℕ) (st : State) → returnCode (setup m s seeds st .reply) ≡ refusalNumber (setupRefusal m s seeds st)
+unfolding setup
+setup-code m s seeds st =
+    by-refusal (λ o. returnCode (o .reply) ≡ refusalNumber (setupRefusal m s seeds st)) (setupRefusal m s seeds st) st (outcome finished (fresh s st))
+    (λ e. sym (ap refusalNumber e)) refl
+
+pub setup-state : (m : Limits) (s : Setting) (seeds : List ℕ) (st : State) → refusalNumber (setupRefusal m s seeds st) ≡ 0 → setup m s seeds st .state ≡ fresh s st
+unfolding setup
+setup-state m s seeds st e = ap (λ o. o .state) (unless-taken (setupRefusal m s seeds st) st (outcome finished (fresh s st)) e)
 
 -- ---- moves one after the other
 

@@ -3,7 +3,6 @@ use Prim.Native.Nat.{_-_, _^_}
 use mathlib.Core.Path.{_≡_}
 use native.Mathlib.Omega.{arith}
 use lib.ListN.{length}
-use Rattle.log_format.specs.Verdict.{memory}
 use Rattle.checker_block.specs.Blocks.{readSoFar, Ready}
 use borrow.Author.Needs.{needs}
 use Rattle.check_log.proofs.run.Statement.{statement}
@@ -25,14 +24,13 @@ start-requires : tie.Need-start-requires Inv-loop μ-loop
 start-requires c κs = search needs
 
 loop-holds : tie.Need-loop-holds Inv-loop μ-loop
-unfolding memory
 loop-holds c = (
   omega arith,
   omega arith,
   omega arith,
   omega arith,
   omega arith,
-  c .start .ensures .1,
+  c .start .ensures .2 _ _ _ _,
 )
 
 slice-aggregate-fill : tie.Need-slice-aggregate-fill Inv-loop μ-loop

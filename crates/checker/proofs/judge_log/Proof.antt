@@ -8,7 +8,7 @@ use lib.ListN.{length}
 use Rattle.log_format.specs.Verdict.{Running, memory}
 use Rattle.judge.specs.Follow.{reportOf}
 use Rattle.checker_block.specs.Blocks.{readSoFar}
-use Rattle.checker.proofs.Logs.{Through, through-none, through-more, through-over, through-all, of-bytes}
+use Rattle.checker.proofs.Logs.{start-memory, Through, through-none, through-more, through-over, through-all, of-bytes}
 use borrow.Author.Needs.{needs}
 use Rattle.checker.proofs.judge_log.Statement.{statement}
 use Rattle.checker.proofs.judge_log.Tie as tie
@@ -48,7 +48,7 @@ loop-holds c = (
   omega arith,
   omega arith,
   omega arith,
-  through-none (c .before .before .args .bytes .now) (blocks (c .before .before)) (whole (c .before .before)) _ (c .start .ensures .0) (c .start .ensures .1),
+  through-none (c .before .before .args .bytes .now) (blocks (c .before .before)) (whole (c .before .before)) _ (c .start .ensures .0) (start-memory _ (c .start .ensures .1)) (c .start .ensures .2 _ _ _ _),
 )
 
 block-at-requires : tie.Need-block-at-requires Inv-loop μ-loop

@@ -1,4 +1,6 @@
--- `judge_start` takes setting and seeds from block 0 and tests them.
+-- `judge_start` takes setting and seeds from block 0 and sets the model up.
+use Rattle.rules.specs.State.{state}
+use Rattle.checker_block.specs.Blocks.{readSoFar}
 use Rattle.checker_block.proofs.Start.{start-judged}
 use borrow.Author.Needs.{needs}
 use Rattle.checker_block.proofs.judge_start.Statement.{statement}
@@ -10,23 +12,34 @@ setting-requires c κs = search needs
 seeds-requires : tie.Need-seeds-requires
 seeds-requires c κs = search needs
 
-slice-aggregate-refusal : tie.Need-slice-aggregate-refusal
-slice-aggregate-refusal c = search needs
+slice-aggregate-setup : tie.Need-slice-aggregate-setup
+slice-aggregate-setup c = search needs
 
-refusal-requires : tie.Need-refusal-requires
-refusal-requires c κs = search needs
+setup-requires : tie.Need-setup-requires
+setup-requires c κs = search needs
 
-fresh-head-requires : tie.Need-fresh-head-requires
-fresh-head-requires c κs = search needs
+cast-t26 : tie.Need-cast-t26
+cast-t26 c = search needs
 
-cast-t11 : tie.Need-cast-t11
-cast-t11 c = search needs
+same-length : tie.Need-same-length
+same-length c = search needs
+
+same-length-2 : tie.Need-same-length-2
+same-length-2 c = search needs
+
+same-length-3 : tie.Need-same-length-3
+same-length-3 c = search needs
+
+same-length-4 : tie.Need-same-length-4
+same-length-4 c = search needs
 
 returns : tie.Need-returns
-returns c = (
-  c .fresh-head .ensures,
-  start-judged (c .before .before .before .before .before .args .block .now) (c .before .before .before .before .setting .result) (c .before .before .before .seeds .result) (c .before .refusal .result) (c .before .before .before .before .setting .ensures) (c .before .before .before .seeds .ensures) (c .before .refusal .ensures),
-)
+returns c =
+    let a = c .before .before .before .before .before .before .before .before .before .before .before .before .before .before .before .before .before .before .before .before .before .before .args in
+    let q = c .before .before .before .before .before .before .before .before .before .setup in
+    start-judged (readSoFar (a .x) (a .counters .now) (a .ticks .now) (a .rows .now) (a .threads .now)) (a .block .now) (c .before .before .before .before .before .before .before .before .before .before .before .before .before .before .before .before .before .setting .result) (c .before .before .before .before .before .before .before .before .before .before .before .before .before .before .before .before .seeds .result) (q .result .code)
+    (state (q .result .head) (q .last .1 .1 .1 .0) (q .last .1 .1 .1 .1 .0) (q .last .1 .1 .1 .1 .1 .0) (q .last .1 .1 .1 .1 .1 .1 .0))
+    (c .before .before .before .before .before .before .before .before .before .before .before .before .before .before .before .before .before .setting .ensures) (c .before .before .before .before .before .before .before .before .before .before .before .before .before .before .before .before .seeds .ensures) (q .ensures)
 
 pub judge-start-spec : {M : Type 1} → statement M
 judge-start-spec =
@@ -34,8 +47,11 @@ judge-start-spec =
     (tie.spec
     setting-requires
     seeds-requires
-    slice-aggregate-refusal
-    refusal-requires
-    fresh-head-requires
-    cast-t11
+    slice-aggregate-setup
+    setup-requires
+    cast-t26
+    same-length
+    same-length-2
+    same-length-3
+    same-length-4
     returns)
