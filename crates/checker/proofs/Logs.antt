@@ -20,6 +20,7 @@ use Rattle.checker_block.specs.Blocks.{readSoFar, Ready, JudgedBlock}
 use Rattle.checker_block.proofs.Steps.{not-both}
 use Rattle.rules.specs.declared.Head.{Head}
 use Rattle.rules.specs.Policy.{limits01, narrow}
+
 -- ---- before the first block
 
 -- only the progress and the memory are looked at

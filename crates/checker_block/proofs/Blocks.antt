@@ -20,6 +20,7 @@ use Rattle.judge.specs.Follow.{running, Follows, Judged}
 use Rattle.checker_block.specs.Blocks.{Ready, JudgedBlock}
 use Rattle.checker_block.proofs.Steps.{not-both}
 use Rattle.rules.specs.Policy.{narrow}
+
 -- ---- a block with records
 
 -- the progress of a new block, of whose records none is counted, and of one that is read

@@ -21,6 +21,7 @@ use Rattle.log_format.proofs.Replies.{call-request, call-done, record-refused, 
 use Rattle.judge.specs.declared.Progress.{Progress}
 use Rattle.judge.specs.declared.Report.the-variants.{Refused, Differs}
 use Rattle.judge.specs.Follow.{running, Follows, refusedBy, countedOne, settled, Judged}
+
 module _ (s : Setting) (seeds : List ℕ) (p : Progress) (st : State) (e : Entry) where
   -- a record counted and compared follows the step of the reply with this number and wait tick
   settled-follows : (number wait opened : ℕ) (h : Head) (left : State) (y : Reply) → opened ≡ openedBy y

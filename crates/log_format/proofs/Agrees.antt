@@ -25,6 +25,7 @@ use Rattle.log_format.specs.Verdict.{agrees, refusedAfter, judged, Runni
 use Rattle.log_format.specs.Claims.{laterOf, settingOfLog, seedsOfLog, recordsOf, rulesOpen, Faithful, OnlyIf, Whenever}
 use Rattle.log_format.proofs.Records.{not-over, same-on}
 use Rattle.log_format.proofs.Judged.{never-agrees, over-agrees, judged-same, block-sound, sound-block, agreeing-judged, judged-agreeing, never-partial}
+
 -- ---- set-up in the checker's memory
 
 -- the memory is long enough for every accepted setting

@@ -19,6 +19,7 @@ use Rattle.log_format.specs.Blocks.{blockRefusal}
 use Rattle.log_format.specs.Verdict.{agrees, differs, Verdict, refusedAfter, judged, Running, Step, over, on, claims, counted, differsHere, judgeReply, judgeRecord, andThen, judgeRecords, nextBlock, noneCounted, setUp, unlessRefusedBy, judgeStart, judgeLater, judgeSound, judgeBlock, verdictOf, judgeBlocks}
 use Rattle.log_format.specs.Claims.{entriesOf, callsOf, SoundFrom}
 use Rattle.log_format.proofs.Records.{not-over, same-on, outcomeOf, advanced, DecidedFrom, records-on, on-records, openIn, counts, decided-append, open-append}
+
 -- a refusal with number 0 is none
 pub number-sound : (r : LogRefusal) → logRefusalNumber r ≡ 0 → r ≡ sound
 number-sound (model r) e = ap model (number-none r e)

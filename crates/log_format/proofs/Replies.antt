@@ -16,6 +16,7 @@ use Rattle.log_format.specs.Contents.{callOf}
 use Rattle.log_format.specs.Verdict.{refusedAfter, Running, over, on, claims, openedBy, counted, differsHere, judgeReply, judgeRecord}
 use Rattle.log_format.proofs.Records.{outcomeOf}
 use Rattle.rules.specs.Policy.{Policy}
+
 -- ---- the step of a record
 
 -- the call of a record, by its kind

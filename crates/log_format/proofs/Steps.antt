@@ -14,6 +14,7 @@ use Rattle.log_format.specs.Contents.{countIn, entryIn, entriesFrom}
 use Rattle.log_format.specs.Blocks.{checked, recordsLaidOut, inTurn, laidOut, blockRefusal}
 use Rattle.log_format.specs.Verdict.{Running, andThen, judgeRecord, judgeRecords, verdictOf, judgeBlock, judgeBlocks}
 use Rattle.rules.specs.Policy.{Policy}
+
 -- ---- one more record, one more block
 
 pub records-step : (p : Policy) (x : Running) (s : List ℕ) (k n : ℕ) → 0 < n

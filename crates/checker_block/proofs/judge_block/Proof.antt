@@ -11,7 +11,6 @@ use borrow.Author.Needs.{needs}
 use Rattle.checker_block.proofs.judge_block.Statement.{statement}
 use Rattle.checker_block.proofs.judge_block.Tie as tie
 
-
 abbrev before : tie.Start → Running
 before c = let a = c .args in readSoFar (a .x) (a .counters .now) (a .ticks .now) (a .rows .now) (a .threads .now)
 
