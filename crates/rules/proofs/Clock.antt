@@ -17,13 +17,13 @@ use Rattle.rules.proofs.Clearing.{length-clear, clear-kept, clear-none,
 
 -- ---- the filters that are cleared
 
-clears-none : (e e′ f : ℕ) → e′ ≤ e → clears e e′ f ≡ false
+pub clears-none : (e e′ f : ℕ) → e′ ≤ e → clears e e′ f ≡ false
 clears-none e e′ f h = simp (le-ltb (e + 1) e′ (omega arith), ne-eqb e′ (e + 1) (λ k. omega arith))
 
-clears-one : (e e′ f : ℕ) → e′ ≡ e + 1 → clears e e′ f ≡ eqb f (e % 2)
+pub clears-one : (e e′ f : ℕ) → e′ ≡ e + 1 → clears e e′ f ≡ eqb f (e % 2)
 clears-one e e′ f h = simp (le-ltb (e + 1) e′ (omega arith), eq-eqb e′ (e + 1) h)
 
-clears-both : (e e′ f : ℕ) → e + 1 < e′ → clears e e′ f ≡ true
+pub clears-both : (e e′ f : ℕ) → e + 1 < e′ → clears e e′ f ≡ true
 clears-both e e′ f h = simp (lt-ltb (e + 1) e′ h)
 
 -- within an epoch no filter is cleared, and at the next one not the filter that is then active

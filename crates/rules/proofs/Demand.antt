@@ -12,7 +12,7 @@ use Rattle.rules.specs.Setting.{epochLength, rowBound}
 use Rattle.rules.specs.State.{fresh}
 use Rattle.rules.specs.Policy.{Policy}
 use Rattle.rules.specs.Calls.{timesActivated}
-use Rattle.rules.specs.Claims.{freeMost, spanBound, Spans, Demand3}
+use Rattle.rules.specs.Claims.{freeMost, spanBound, Spans, Demand3, WithinBound}
 use Rattle.rules.proofs.Tests.{cond-yes}
 use Rattle.rules.proofs.Accept.{set-up, epoch-long}
 use Rattle.rules.specs.Tested.{Accepted}
@@ -43,8 +43,13 @@ window-bound m s seeds ok =
     let free : freeMost s (s .w) ≡ 2 * s .n = ap (λ k. s .n * k) pairs ∙ omega arith in
     rw (free, cond-yes (leb (2 * s .n * s .trc) (s .w - 1)) (2 * s .n + 1 + (s .w - 1 - 2 * s .n * s .trc) / s .td) (1 + (s .w - 1) / s .trc) (le→leb (2 * s .n * s .trc) (s .w - 1) (ok .room)))
 
+-- at most B, for every policy
+pub within-bound : (p : Policy) → WithinBound p
+within-bound p s seeds before e cs bank row start =
+    let ok = set-up (p .limits) s seeds before e .setting in
+    omega (arith, spans p s seeds before e cs bank row start (s .w) (omega (arith, ok .ranges .w-low)), window-bound (p .limits) s seeds ok)
+
 -- Demand 3, for every policy
 pub demand-3 : (p : Policy) → Demand3 p
 demand-3 p s seeds before e cs bank row start =
-    let ok = set-up (p .limits) s seeds before e .setting in
-    omega (arith, spans p s seeds before e cs bank row start (s .w) (omega (arith, ok .ranges .w-low)), window-bound (p .limits) s seeds ok, ok .bound)
+    omega (arith, within-bound p s seeds before e cs bank row start, set-up (p .limits) s seeds before e .setting .bound)

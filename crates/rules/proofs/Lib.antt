@@ -26,5 +26,8 @@ pub mod WaitRow
 pub mod WaitFilter
 pub mod Threshold
 pub mod Wait
+pub mod Used
+pub mod Rest
+pub mod Later
 pub mod Theorems
 pub mod Samples

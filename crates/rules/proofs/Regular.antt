@@ -41,5 +41,6 @@ in-force-regular m =
       quotaMost = λ s seeds ok c. omega (arith, quota-most s c, ok .ranges .q-high);
       quotaFirst = λ s seeds ok. quota-full ok;
       noneFlying = λ s threads bank thread bh th z. z (threadCell s bank thread 2) (thread-in s bank thread 2 bh th (omega arith));
+      usedFlying = λ s threads other bank thread bh th same. same (threadCell s bank thread 2) (thread-in s bank thread 2 bh th (omega arith));
       ownFlying = λ s threads bank thread bh th. le-refl (getD threads (threadCell s bank thread 2) 0);
     }

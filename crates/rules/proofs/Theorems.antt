@@ -2,10 +2,13 @@
 use Rattle.rules.specs.Claims.{Theorems}
 use Rattle.rules.proofs.Moves.{spans-of-moves}
 use Rattle.rules.proofs.Step.{step-moves}
-use Rattle.rules.proofs.Demand.{spans, demand-3}
+use Rattle.rules.proofs.Demand.{spans, within-bound, demand-3}
 use Rattle.rules.proofs.Wait.{wait-is-least, wait-is-closed}
 use Rattle.rules.proofs.Threshold.{below-threshold}
 use Rattle.rules.proofs.Regular.{in-force-regular}
+use Rattle.rules.proofs.Used.{same-replies}
+use Rattle.rules.proofs.Rest.{rest-kept}
+use Rattle.rules.proofs.Later.{turns-add, wait-is-later, opened-at-wait, never-wait-row}
 use Rattle.rules.proofs.First.{first-opened}
 use Rattle.rules.proofs.Sound.{never-memory}
 use Rattle.rules.proofs.Fits.{step-fits, run-fits}
@@ -17,9 +20,16 @@ theorems =
       stepMoves = step-moves;
       spans = spans;
       demand3 = demand-3;
+      withinBound = within-bound;
+      turnsAdd = turns-add;
       waitIsLeast = wait-is-least;
       waitIsClosed = wait-is-closed;
+      waitIsLater = wait-is-later;
+      openedAtWait = opened-at-wait;
       belowThreshold = below-threshold;
+      neverWaitRow = never-wait-row;
+      restKept = rest-kept;
+      sameReplies = same-replies;
       firstOpened = first-opened;
       neverMemory = never-memory;
       stepFits = step-fits;

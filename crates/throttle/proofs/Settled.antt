@@ -15,7 +15,7 @@ use Rattle.rules.specs.Quota.{indexCounter}
 use Rattle.rules.specs.Policy.{limits01, narrow}
 use Rattle.rules.specs.Calls.{request, done, index, answered, finished, Outcome, outcome, oneLess, setup, setupRefusal, callRefusal, doneRefusal, unlessRefused, requested, reported, indexShown, step}
 use Rattle.rules.proofs.Step.{unless-taken, unless-refused}
-use Rattle.throttle.specs.Left.{left, found, leaves}
+use Rattle.interface.specs.Left.{left, found, leaves}
 
 -- a refused call gives its number and leaves all as it was
 pub left-refused : (r : Refusal) (o : Outcome) (code : ℕ) (out words counters ticks rows threads : List ℕ)

@@ -11,7 +11,7 @@ ghost use mathlib.Core.List.{[]};
 ghost use Rattle.rules.specs.Setting.{settingOf};
 ghost use Rattle.rules.specs.Policy.{limits01, narrow};
 ghost use Rattle.rules.specs.Calls.{request, done, index, setup, step};
-ghost use Rattle.throttle.specs.Left.{left, found, leaves};
+ghost use Rattle.interface.specs.Left.{left, found, leaves};
 
 // For callers in Rattle that own their memory: set-up, request and done without the test of the whole history, and the numbers of an answer.
 pub use sound::done;

@@ -16,7 +16,7 @@ use Rattle.refusal.specs.Tests.{doneTest}
 use Rattle.refusal.proofs.Refusals.{done-test}
 use Rattle.calls.proofs.Requests.{Within-widest, bounds}
 use Rattle.calls.proofs.Flying.{some-flying}
-use Rattle.throttle.specs.Left.{found}
+use Rattle.interface.specs.Left.{found}
 use Rattle.throttle.proofs.Settled.{left-refused, left-done}
 use borrow.Author.Needs.{needs}
 use Rattle.throttle.proofs.throttle_done.Statement.{statement}

@@ -14,7 +14,7 @@ use Rattle.rules.proofs.Accept.{taken, number-none}
 use Rattle.refusal.specs.Tests.{callTest}
 use Rattle.refusal.proofs.Refusals.{call-test}
 use Rattle.calls.proofs.Requests.{Within-widest, bounds}
-use Rattle.throttle.specs.Left.{found}
+use Rattle.interface.specs.Left.{found}
 use Rattle.throttle.proofs.Settled.{left-refused, left-index}
 use borrow.Author.Needs.{needs}
 use Rattle.throttle.proofs.throttle_index.Statement.{statement}

@@ -13,7 +13,7 @@ use Rattle.rules.specs.Calls.{callRefusal, requested, step}
 use Rattle.rules.proofs.Accept.{number-none}
 use Rattle.refusal.specs.Tests.{callTest}
 use Rattle.refusal.proofs.Refusals.{call-test}
-use Rattle.throttle.specs.Left.{found}
+use Rattle.interface.specs.Left.{found}
 use Rattle.throttle.proofs.Settled.{left-refused, left-request}
 use borrow.Author.Needs.{needs}
 use Rattle.throttle.proofs.throttle_request.Statement.{statement}

@@ -14,7 +14,7 @@ use Rattle.rules.proofs.Accept.{set-up, number-none}
 use Rattle.refusal.specs.Tests.{setupTest}
 use Rattle.refusal.proofs.Refusals.{setup-test}
 use Rattle.calls.proofs.Requests.{Within-widest, bounds}
-use Rattle.throttle.specs.Left.{found}
+use Rattle.interface.specs.Left.{found}
 use Rattle.throttle.proofs.Settled.{left-refused, left-setup}
 use borrow.Author.Needs.{needs}
 use Rattle.throttle.proofs.throttle_setup.Statement.{statement}
