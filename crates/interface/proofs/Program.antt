@@ -1,28 +1,27 @@
 -- The openings that a C program sees are the activations of a run of the rules, so demand 3 holds of them.
 use mathlib.Core.Path.{_≡_, refl, sym, ap, ap₂, _∙_, subst}
-use mathlib.Core.List.{List, [], _∷_, _++_, map}
-use mathlib.Core.Bool.{Bool, true, false, _&&_, cond}
+use mathlib.Core.List.{List, [], _∷_, _++_}
+use mathlib.Core.Bool.{Bool, true, false, cond}
 use Prim.Native.Nat.{ℕ, _≤_}
-use native.Mathlib.Omega.{arith}
-use lib.Dec.{eqb, eqb→eq}
-use lib.ListN.{getD}
+use lib.Dec.{eqb}
 use Rattle.rules.specs.declared.Setting.{Setting}
-use Rattle.rules.specs.declared.Head.{Head}
 use Rattle.rules.specs.declared.Cause.the-variants.{Bank, Rank, Row}
 use Rattle.rules.specs.declared.Answer.{Answer}
 use Rattle.rules.specs.declared.Answer.the-variants.{Opened, Wait, Quota}
 use Rattle.rules.specs.Answers.{Refusal, none, refusalNumber}
 use Rattle.rules.specs.Setting.{settingOf}
-use Rattle.rules.specs.State.{State, headOf, headWords, fresh}
+use Rattle.rules.specs.State.{State, headWords, fresh}
+use Rattle.rules.specs.Clock.{turned}
+use Rattle.rules.specs.Hash.{places}
+use Rattle.rules.specs.Decision.{decide}
 use Rattle.rules.specs.Policy.{limits01, narrow}
 use Rattle.rules.specs.Calls.{Call, request, done, index, refused, answered, finished, Outcome, outcome, setup, setupRefusal, refusalOf, unlessRefused, requested, reported, indexShown, performed, step, replies, activationOf, activations, timesActivated}
 use Rattle.rules.specs.Claims.{spanBound}
-use Rattle.rules.proofs.Tests.{holds}
 use Rattle.rules.proofs.Accept.{number-none}
 use Rattle.rules.proofs.Step.{setup-code, unless-taken}
 use Rattle.rules.proofs.Theorems.{theorems as rules}
 use Rattle.interface.specs.Left.{Left, found, leaves}
-use Rattle.interface.specs.Claims.{Lent, Asked, asksRequest, asksDone, asksIndex, callOf, outOf, foundIn, leftBySetup, leftBy, lentAfter, leftByAll, openingOf, openings, SpansForC, Demand3ForC, Theorems}
+use Rattle.interface.specs.Claims.{Lent, Asked, asksRequest, asksDone, asksIndex, callOf, outOf, foundIn, leftBySetup, leftBy, lentAfter, leftByAll, openingOf, openings, Theorems}
 use Rattle.interface.proofs.Heads.{Shape, words-back, head-shape, fresh-shape, performed-shape}
 
 -- the state found in what a head and buffers leave
@@ -49,7 +48,7 @@ performed-seen : (s : Setting) (seeds : List ℕ) (st : State) (c : Asked) (word
     → Seen c (leaves (performed narrow s (λ f. seeds) st (callOf c)) (outOf c) words) (performed narrow s (λ f. seeds) st (callOf c))
 unfolding leaves requested reported indexShown
 performed-seen s seeds st (asksRequest t b th r out) words h =
-    record { opening = answer-opening t b th r out _ _ words; state = found-back _ (performed-shape narrow s (λ f. seeds) st (request t b th r) h) }
+    record { opening = answer-opening t b th r out (decide narrow s (λ f. places seeds r) (turned s st t) b th r) (performed narrow s (λ f. seeds) st (request t b th r) .state) words; state = found-back _ (performed-shape narrow s (λ f. seeds) st (request t b th r) h) }
 performed-seen s seeds st (asksDone t b th) words h =
     record { opening = refl; state = found-back _ (performed-shape narrow s (λ f. seeds) st (done t b th) h) }
 performed-seen s seeds st (asksIndex t b th out) words h =

@@ -1,40 +1,38 @@
 -- The clock turned in two steps, and what comes of a request that waits: its tick is later, and at that tick it is opened.
-use mathlib.Core.Path.{_≡_, refl, sym, ap, ap₂, _∙_, subst}
+use mathlib.Core.Path.{_≡_, refl, sym, ap, _∙_, subst}
 use mathlib.Core.Logic.{_≢_}
 use mathlib.Core.List.{List, [], _∷_, _++_}
-use mathlib.Core.Bool.{Bool, true, false, not, _&&_, _||_, cond}
-use Prim.Native.Nat.{ℕ, zero, suc, _+_, _/_, _%_, _^_, _≤_, _<_}
+use mathlib.Core.Bool.{Bool, true, false, not, _&&_, _||_}
+use Prim.Native.Nat.{ℕ, _+_, _/_, _%_, _^_, _≤_, _<_}
 use native.Mathlib.Omega.{arith}
 use native.Mathlib.Decide.{ℕ-discrete, decLt}
-use lib.Dec.{T, leb, ltb, eqb, eqb→eq, ltb→lt, T-not}
-use lib.ListN.{length, getD}
+use lib.Dec.{T, ltb, ltb→lt, T-not}
+use lib.ListN.{length}
 use borrow.Author.Tests.{lt-leb, le-ltb, eq-eqb}
 use Rattle.rules.specs.declared.Setting.{Setting}
 use Rattle.rules.specs.declared.Limits.{Limits}
-use Rattle.rules.specs.declared.Head.{Head}
 use Rattle.rules.specs.declared.Cause.{Cause}
 use Rattle.rules.specs.declared.Cause.the-variants.{Row}
 use Rattle.rules.specs.declared.Answer.{Answer}
 use Rattle.rules.specs.declared.Answer.the-variants.{Opened, Wait, Quota}
 use Rattle.rules.specs.Answers.{Refusal, none, answerNumber, answerWait, refusalNumber}
-use Rattle.rules.specs.Setting.{epochLength, historyLength, settingRefusal}
+use Rattle.rules.specs.Setting.{epochLength, settingRefusal}
 use Rattle.rules.specs.State.{State, state, countersUsed, threadsUsed}
-use Rattle.rules.specs.Clock.{epoch, clears, activeFilter, turnedCounters, turnedThreads, movedHead, turned}
+use Rattle.rules.specs.Clock.{epoch, clears, turnedCounters, turnedThreads, movedHead, turned}
 use Rattle.rules.specs.Hash.{places}
-use Rattle.rules.specs.Filter.{estimate, blacklisted}
-use Rattle.rules.specs.History.{memoryOk, rowFree}
+use Rattle.rules.specs.History.{memoryOk}
 use Rattle.rules.specs.Policy.{Policy}
-use Rattle.rules.specs.Decision.{passed, quotaRule, bankRule, rankRule, rowRule, activeEstimate, passesAt, waitTick, firstFailing, decide, activated}
+use Rattle.rules.specs.Decision.{quotaRule, bankRule, rankRule, rowRule, passesAt, waitTick, firstFailing, decide, activated}
 use Rattle.rules.specs.Tested.{Sound, Taken}
-use Rattle.rules.specs.Calls.{Call, request, done, index, Reply, refused, answered, finished, shown, Outcome, outcome, callRefusal, callTick, callBank, callThread, refusalOf, unlessRefused, afterAnswer, requested, reported, indexShown, performed, step, replies, after, Activation, activationOf, activations}
-use Rattle.rules.specs.Claims.{Least, TurnsAdd, WaitIsLater, OpenedAtWait, NeverWaitRow}
-use Rattle.rules.proofs.Tests.{and-i, and-l, and-r, holds, is-true}
+use Rattle.rules.specs.Calls.{Call, request, done, index, Reply, refused, answered, finished, shown, callRefusal, callTick, callBank, callThread, refusalOf, unlessRefused, afterAnswer, requested, reported, indexShown, performed, step, replies, after, Activation, activationOf, activations}
+use Rattle.rules.specs.Claims.{TurnsAdd, WaitIsLater, OpenedAtWait, NeverWaitRow}
+use Rattle.rules.proofs.Tests.{and-l, and-r, holds, is-true}
 use Rattle.rules.proofs.Clearing.{clear-clear}
 use Rattle.rules.proofs.Clock.{clears-none, clears-one, clears-both, counters-none}
 use Rattle.rules.proofs.Accept.{accepted, epoch-long, orElse-none, taken, call-taken}
 use Rattle.rules.proofs.Memory.{memory, memory-ok}
 use Rattle.rules.proofs.Turn.{div-mono}
-use Rattle.rules.proofs.Step.{by-refusal}
+use Rattle.rules.proofs.Step.{by-refusal, unless-taken}
 use Rattle.rules.proofs.Sound.{long-not-short, step-sound}
 use Rattle.rules.proofs.Threshold.{below-threshold}
 use Rattle.rules.proofs.Wait.{wait-is-least}
@@ -163,7 +161,7 @@ answers : (p : Policy) (s : Setting) (seeds : List ℕ) (st : State) (t bank thr
 unfolding step requested
 answers p s seeds st t bank thread row a e =
     by-refusal (λ o. o .reply ≡ answered a → o .state ≡ o .state → Answers p s seeds st t bank thread row a) r st (requested p s at (turned s st t) bank thread row)
-    (λ k z y. record { free = k; is = ap answerOf z; left = rw (k, ap answerOf z) })
+    (λ k z y. record { free = k; is = ap answerOf z; left = ap (λ o. o .state) (unless-taken r st (requested p s at (turned s st t) bank thread row) (ap refusalNumber k)) ∙ ap (λ x. afterAnswer x (turned s st t) (activated s at (turned s st t) bank thread row)) (ap answerOf z) })
     (λ z y. absurd (omega (arith, ap told z))) e refl
   where
     r : Refusal
@@ -195,13 +193,13 @@ wait-is-later p s seeds st t bank thread row c u e =
     let w = waiting p s at (turned s st t) bank thread row c u (k .is) in
     let l = wait-is-least (p .limits) s seeds st t bank thread (k .free) at row in
     let now = passes-now s at st t bank row (omega (arith, epoch-long (ok .setting))) (ok .later) in
-    go (waitTick s at (turned s st t) bank row) (w .0) (l .later) (l .passes) (passesAt s at (turned s st t) bank row) now (w .1)
+    go (waitTick s at (turned s st t) bank row) (w .0) (l .later) (passesAt s at (turned s st t) bank row) (l .passes) _ now (w .1)
   where
     go : (v : ℕ) → v ≡ u → t ≤ v → (f : ℕ → Bool) → T (f v) → (g : Bool) → f t ≡ g → T (not g) → t < u
-    go v ev lo f pass g eg no = pick (ℕ-discrete v t)
+    go v ev lo f pass g eg fail = pick (ℕ-discrete v t)
       where
         pick : Dec (v ≡ t) → t < u
-        pick (yes q) = absurd (T-not g no (subst T (ap f q ∙ eg) pass))
+        pick (yes q) = absurd (T-not g fail (subst T (ap f q ∙ eg) pass))
         pick (no q) = omega arith
 
 -- ---- no activation between

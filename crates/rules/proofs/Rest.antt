@@ -2,13 +2,12 @@
 use mathlib.Core.Path.{_≡_, refl, sym, _∙_}
 use mathlib.Core.Logic.{_⊎_, inl, inr}
 use mathlib.Core.List.{List, [], _∷_, map}
-use mathlib.Core.Bool.{Bool, true, false, not, _&&_, _||_, cond}
+use mathlib.Core.Bool.{Bool, true, false, _&&_, cond}
 use Prim.Native.Nat.{ℕ, _+_, _-_, _*_, _/_, _%_, _≤_, _<_}
 use native.Mathlib.Omega.{arith}
 use native.Mathlib.Decide.{decLt}
-use native.Mathlib.List.{List·getD-eq-default}
+use lib.ListN.{List·getD-eq-default, length, getD, set, length-set}
 use lib.Dec.{T, ltb, eqb, eqb→eq, eqb-refl, ltb→lt, not-T}
-use lib.ListN.{length, getD, set, length-set}
 use lib.Seq.{getD-set-other}
 use Rattle.rules.specs.declared.Setting.{Setting}
 use Rattle.rules.specs.declared.Answer.{Answer}
@@ -123,9 +122,6 @@ activated-rest s at st b th r bh thh inRing low =
       threads = go (blacklisted (s .n) (activeEstimate s at st b));
     }
   where
-    ts : List ℕ
-    ts = st .threads
-
     used : (k : ℕ) → k < 3 → threadCell s b th k < threadsUsed s
     used k k3 = thread-in s b th k bh thh k3
 
@@ -133,16 +129,19 @@ activated-rest s at st b th r bh thh inRing low =
     flying = set (st .threads) (threadCell s b th 2) (getD (st .threads) (threadCell s b th 2) 0 + 1)
 
     flies : SameFrom (threadsUsed s) (st .threads) flying
-    flies = set-from (threadsUsed s) (threadCell s b th 2) _ (st .threads) (used 2 (omega arith))
+    flies = set-from (threadsUsed s) (threadCell s b th 2) (getD (st .threads) (threadCell s b th 2) 0 + 1) (st .threads) (used 2 (omega arith))
 
     first : List ℕ
     first = set flying (threadCell s b th 0) (raised (indexScale s) (getD (st .threads) (threadCell s b th 0) 0))
 
     firsts : SameFrom (threadsUsed s) (st .threads) first
-    firsts = then-from (threadsUsed s) (st .threads) flying first flies (set-from (threadsUsed s) (threadCell s b th 0) _ flying (used 0 (omega arith)))
+    firsts = then-from (threadsUsed s) (st .threads) flying first flies (set-from (threadsUsed s) (threadCell s b th 0) (raised (indexScale s) (getD (st .threads) (threadCell s b th 0) 0)) flying (used 0 (omega arith)))
 
-    go : (q : Bool) → SameFrom (threadsUsed s) (st .threads) (cond q (set first (threadCell s b th 1) (raised (indexScale s) (getD (st .threads) (threadCell s b th 1) 0))) flying)
-    go true = then-from (threadsUsed s) (st .threads) first _ firsts (set-from (threadsUsed s) (threadCell s b th 1) _ first (used 1 (omega arith)))
+    second : List ℕ
+    second = set first (threadCell s b th 1) (raised (indexScale s) (getD (st .threads) (threadCell s b th 1) 0))
+
+    go : (q : Bool) → SameFrom (threadsUsed s) (st .threads) (cond q second flying)
+    go true = then-from (threadsUsed s) (st .threads) first second firsts (set-from (threadsUsed s) (threadCell s b th 1) (raised (indexScale s) (getD (st .threads) (threadCell s b th 1) 0)) first (used 1 (omega arith)))
     go false = flies
 
 reported-rest : (s : Setting) (st : State) (b th : ℕ) → b < s .banks → th < s .threads → SameRest s st (reported s st b th .state)

@@ -2,7 +2,7 @@
 use mathlib.Core.Path.{_≡_, refl, sym, ap, ap₂, _∙_}
 use mathlib.Core.List.{List, [], _∷_}
 use mathlib.Core.Bool.{Bool, true, false, not, _&&_, _||_, cond}
-use Prim.Native.Nat.{ℕ, zero, suc, _+_, _-_, _/_, _%_, _≤_, _<_, min}
+use Prim.Native.Nat.{ℕ, zero, suc, _+_, _-_, _/_, _%_, _<_}
 use native.Mathlib.Omega.{arith}
 use native.Mathlib.Decide.{ℕ-discrete}
 use lib.Dec.{T, leb, ltb, eqb, eqb→eq, ltb→lt, lt→ltb}
@@ -10,25 +10,23 @@ use lib.ListN.{length, getD, set, length-set}
 use lib.Seq.{getD-set-same, getD-set-other}
 use Rattle.rules.specs.declared.Setting.{Setting}
 use Rattle.rules.specs.declared.Limits.{Limits}
-use Rattle.rules.specs.declared.Head.{Head}
 use Rattle.rules.specs.declared.Answer.{Answer}
 use Rattle.rules.specs.declared.Answer.the-variants.{Opened, Wait, Quota}
 use Rattle.rules.specs.Cells.{every, clearCells, leastFrom}
 use Rattle.rules.specs.Answers.{Refusal, none, refusalNumber, refuse, noneInFlight}
 use Rattle.rules.specs.Setting.{historyLength, indexScale, settingRefusal}
-use Rattle.rules.specs.State.{State, countersUsed, threadsUsed, counterCell, threadCell, rowWord, fresh, freshHead}
+use Rattle.rules.specs.State.{State, countersUsed, threadsUsed, counterCell, threadCell, rowWord, fresh}
 use Rattle.rules.specs.Clock.{epoch, clears, activeFilter, turnedCounters, turnedThreads, movedHead, turned}
 use Rattle.rules.specs.Hash.{places}
-use Rattle.rules.specs.Filter.{Within, estimate, blacklisted, raised, counted, named}
+use Rattle.rules.specs.Filter.{Within, estimate, blacklisted, raised, named}
 use Rattle.rules.specs.History.{back, notAfter, neverRises, memoryOk, matches, rowFree}
-use Rattle.rules.specs.Quota.{indexCounter}
 use Rattle.rules.specs.Policy.{Policy}
 use Rattle.rules.specs.Decision.{passed, quotaRule, bankRule, rankRule, activeEstimate, rowRule, passesAt, waitTick, firstFailing, decide, activatedHead, activatedThreads, activated}
-use Rattle.rules.specs.Tested.{Long, Accepted, Taken}
-use Rattle.rules.specs.Calls.{Call, request, done, index, Reply, refused, answered, finished, shown, Outcome, outcome, callRefusal, doneRefusal, callTick, callBank, callThread, refusalOf, unlessRefused, afterAnswer, requested, oneLess, reported, indexShown, performed, step, replies, after}
+use Rattle.rules.specs.Tested.{Long, Taken}
+use Rattle.rules.specs.Calls.{Call, request, done, index, refused, shown, Outcome, outcome, callRefusal, doneRefusal, callTick, callBank, callThread, refusalOf, unlessRefused, afterAnswer, requested, reported, indexShown, performed, step, replies, after}
 use Rattle.rules.specs.Claims.{Regular, SameUsed, withLimits, SameReplies}
 use Rattle.rules.proofs.Tests.{holds, fails}
-use Rattle.rules.proofs.Cells.{getD-mapCells, thread-in}
+use Rattle.rules.proofs.Cells.{thread-in}
 use Rattle.rules.proofs.Clearing.{clear-kept, clear-zero}
 use Rattle.rules.proofs.Places.{places-within}
 use Rattle.rules.proofs.Accept.{taken, call-taken, number-none}
@@ -303,7 +301,7 @@ module _ (p : Policy) (reg : Regular p) (m : Limits) (s : Setting) (seeds : List
 
   performed-used : (a b : State) → SameUsed s a b → (c : Call) → Taken (p .limits) s seeds a (callTick c) (callBank c) (callThread c)
       → Alike s (performed p s (λ f. seeds) a c) (performed (withLimits p m) s (λ f. seeds) b c)
-  unfolding requested indexShown
+  unfolding requested reported indexShown
   performed-used a b u (request t bank thread row) k =
       rw (decide-used p reg m s x y v at bank thread row (k .bank-in) (k .thread-in) w) (refl, go (decide p s at x bank thread row))
     where
