@@ -5,7 +5,6 @@ use judge::Report;
 use rules::Head;
 use rules::Setting;
 ghost use Prim.Native.Nat.{_^_, _≤_, _<_};
-ghost use Rattle.rules.specs.Answers.{none};
 ghost use Rattle.rules.specs.Policy.{narrow};
 ghost use Rattle.log_format.specs.Contents.{countIn};
 ghost use Rattle.log_format.specs.Verdict.{judgeStart, judgeLater, judgeBlock};
