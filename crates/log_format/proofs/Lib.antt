@@ -4,6 +4,7 @@ pub mod Fits
 pub mod Records
 pub mod Judged
 pub mod Agrees
+pub mod Anywhere
 pub mod ReadBack
 pub mod Framed
 pub mod Written

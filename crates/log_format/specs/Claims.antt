@@ -8,9 +8,10 @@ use Rattle.rules.specs.declared.Limits.{Limits}
 use Rattle.rules.specs.Cells.{All}
 use Rattle.rules.specs.Answers.{none, answerNumber, answerWait}
 use Rattle.rules.specs.Setting.{settingOf, settingRefusal}
-use Rattle.rules.specs.State.{fresh}
+use Rattle.rules.specs.State.{State, fresh}
 use Rattle.rules.specs.Policy.{Policy}
-use Rattle.rules.specs.Calls.{Call, Reply, refused, answered, finished, shown, replies, activations}
+use Rattle.rules.specs.Calls.{Call, Reply, refused, answered, finished, shown, setupRefusal, replies, activations}
+use Rattle.rules.specs.Claims.{Regular}
 use Rattle.log_format.specs.declared.Entry.{Entry}
 use Rattle.log_format.specs.Bytes.{blockAt, blocksFrom}
 use Rattle.log_format.specs.Refusals.{sound}
@@ -133,11 +134,37 @@ pub record CallsWrite (m : Limits) : Type 0 where
   pub seal : (s : List ℕ) (b : ℕ) (es : List Entry) → 1 ≤ b → b < 2 ^ 32 → 1 ≤ length es → length es ≤ 20
       → sealWritten (putRecords s 0 es) b (length es) ≡ written 0 (recordsBlock s b es)
 
+-- ---- in any memory
+
+-- the rules' replies to the calls of these records, from set-up in this memory
+abbrev pub rulesSayIn : Policy → State → Setting → List ℕ → List Entry → List Reply
+rulesSayIn p before s seeds es = replies p s seeds (fresh s before) (callsOf es)
+
+-- Set-up with the setting and the seeds of the log is not refused in this memory.
+abbrev pub Accepts : Policy → State → List ℕ → Type 0
+Accepts p before bytes = setupRefusal (p .limits) (settingOfLog bytes) (seedsOfLog bytes) before ≡ none
+
+-- Accepted only if: in every memory that set-up accepts, every record is the rules' decision, and the count of those opened is the true one.
+abbrev pub OnlyIfAnywhere : Policy → Type 0
+OnlyIfAnywhere p =
+    (bytes : List ℕ) (r o : ℕ) → verdict p bytes ≡ judged r o agrees → (before : State) → Accepts p before bytes
+    → let said = rulesSayIn p before (settingOfLog bytes) (seedsOfLog bytes) (recordsOf bytes) in
+    Decided (recordsOf bytes) said × (o ≡ length (activations (callsOf (recordsOf bytes)) said))
+
+-- Accepted whenever: a well-formed log of the rules' decisions in any memory that set-up accepts agrees.
+abbrev pub WheneverAnywhere : Policy → Type 0
+WheneverAnywhere p =
+    (bytes : List ℕ) → WellFormed bytes → (before : State) → Accepts p before bytes
+    → let said = rulesSayIn p before (settingOfLog bytes) (seedsOfLog bytes) (recordsOf bytes) in
+    Decided (recordsOf bytes) said → verdict p bytes ≡ judged (length (recordsOf bytes)) (length (activations (callsOf (recordsOf bytes)) said)) agrees
+
 -- ---- all of it
 
--- For every policy; the encoder's, for limits whose greatest N has 32 bits.
+-- For every policy; in any memory for every regular one; the encoder's, for limits whose greatest N has 32 bits.
 pub record Theorems : Type 0 where
   pub onlyIf : (p : Policy) → OnlyIf p
   pub whenever : (p : Policy) → Whenever p
+  pub onlyIfAnywhere : (p : Policy) → Regular p → OnlyIfAnywhere p
+  pub wheneverAnywhere : (p : Policy) → Regular p → WheneverAnywhere p
   pub writtenAgrees : (p : Policy) → p .limits .threshold < 2 ^ 32 → WrittenAgrees p
   pub callsWrite : (m : Limits) → m .threshold < 2 ^ 32 → CallsWrite m
