@@ -17,7 +17,7 @@ use Rattle.rules.specs.State.{State, countersUsed, threadsUsed, threadCell, sta
 use Rattle.rules.specs.Clock.{epoch, turnedCounters, turnedThreads, movedHead, turned}
 use Rattle.rules.specs.Hash.{places}
 use Rattle.rules.specs.Filter.{Within, blacklisted}
-use Rattle.rules.specs.Policy.{Policy, inForce}
+use Rattle.rules.specs.Policy.{Policy, limits01, inForce}
 use Rattle.rules.specs.Decision.{activeEstimate, decide, activated}
 use Rattle.rules.specs.Tested.{Accepted, Taken, Sound}
 use Rattle.rules.specs.Calls.{answered, afterAnswer, outcome, requested}
@@ -38,6 +38,10 @@ use Rattle.state.specs.Ready.{widest, Bounds, Ready}
 pub record Within-widest (m : Limits) : Type 0 where
   pub threshold : m .threshold ≤ widest .threshold
   pub history : m .history ≤ widest .history
+
+-- as those of the 16-bit calls are
+pub narrow-widest : Within-widest limits01
+narrow-widest = record { threshold = omega arith; history = omega arith }
 
 pub bounds : {m : Limits} {s : Setting} {seeds : List ℕ} → Within-widest m → Accepted m s seeds → Bounds s
 bounds w ok =

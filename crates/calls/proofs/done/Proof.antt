@@ -13,11 +13,13 @@ turn-requires c κs =
 
 finish-requires : tie.Need-finish-requires
 finish-requires c κs =
-    let a = c .before .before .before .before .before .before .before .before .before .before .before .args in
-    let p = c .before .before .before .before .before .before .before .before .before .before .before .pre in
-    let e = c .before .before .before .before .before .before .turn .ensures .2 in
+    let start = c .before .before .before .before .before .before .before .before .before .before .before in
+    let at-turn = c .before .before .before .before .before .before in
+    let a = start .args in
+    let p = start .pre in
+    let e = at-turn .turn .ensures .2 in
     let kept = turned-flying (a .s) (a .bank) (a .thread) (epoch (a .s) (a .h .last)) (epoch (a .s) (a .tick)) (a .threads .now) in
-    (p .3, p .4, p .0 .ranges .banks-high, p .0 .ranges .threads-high, omega (arith, p .2, c .before .before .before .before .before .before .turn .kept .1 .1 .1 .0), rw e (rw kept (p .5)))
+    (p .3, p .4, p .0 .ranges .banks-high, p .0 .ranges .threads-high, omega (arith, p .2, at-turn .turn .kept .1 .1 .1 .0), rw e (rw kept (p .5)))
 
 same-length : tie.Need-same-length
 same-length c = search needs
@@ -27,8 +29,9 @@ same-length-2 c = search needs
 
 returns : tie.Need-returns
 returns c =
-    let e = c .before .before .before .before .before .before .before .before .before .turn .ensures .2 in
-    (c .before .before .before .before .before .before .before .before .before .turn .ensures .0, c .before .before .before .before .before .before .before .before .before .turn .ensures .1, rw e at (c .before .before .finish .ensures))
+    let at-turn = c .before .before .before .before .before .before .before .before .before in
+    let e = at-turn .turn .ensures .2 in
+    (at-turn .turn .ensures .0, at-turn .turn .ensures .1, rw e at (c .before .before .finish .ensures))
 
 pub done-spec : {M : Type 1} → statement M
 done-spec =

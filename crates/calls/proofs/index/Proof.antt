@@ -45,11 +45,13 @@ same-length-2 c = search needs
 
 returns : tie.Need-returns
 returns c =
+    let at-turn = c .before .before .before .before .before .before .before .before .before .before in
+    let at-cell = c .before .before .before in
     let a = c .before .before .before .before .before .before .before .before .before .before .before .before .before .before .before .args in
-    let x = c .before .before .before .before .before .before .before .before .before .before .turn .result .epoch % 2 in
-    let e = cell-at (a .s) (a .bank) (a .thread) (c .before .before .before .cell .result) x (c .before .before .before .cell .ensures .0) in
-    let f = ap (λ e. threadCell (a .s) (a .bank) (a .thread) (e % 2)) (c .before .before .before .before .before .before .before .before .before .before .turn .ensures .3) in
-    (c .before .before .before .before .before .before .before .before .before .before .turn .ensures .0, c .before .before .before .before .before .before .before .before .before .before .turn .ensures .1, c .before .before .before .before .before .before .before .before .before .before .turn .ensures .2, ap (λ x. getD (c .before .before .before .before .before .before .before .before .before .before .turn .last .1 .1 .1 .0) x 0) (e ∙ f), refl, c .before .quota .ensures .0)
+    let x = at-turn .turn .result .epoch % 2 in
+    let e = cell-at (a .s) (a .bank) (a .thread) (at-cell .cell .result) x (at-cell .cell .ensures .0) in
+    let f = ap (λ e. threadCell (a .s) (a .bank) (a .thread) (e % 2)) (at-turn .turn .ensures .3) in
+    (at-turn .turn .ensures .0, at-turn .turn .ensures .1, at-turn .turn .ensures .2, ap (λ x. getD (at-turn .turn .last .1 .1 .1 .0) x 0) (e ∙ f), refl, c .before .quota .ensures .0)
 
 pub index-spec : {M : Type 1} → statement M
 index-spec =

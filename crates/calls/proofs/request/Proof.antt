@@ -19,7 +19,7 @@ use Rattle.rules.proofs.Filter.{both-same}
 use Rattle.rules.proofs.Tests.{is-true}
 use Rattle.decision.specs.Numbers.{passiveEstimate, viewOf}
 use Rattle.state.specs.Ready.{Ready}
-use Rattle.calls.proofs.Requests.{Within-widest, bounds, turned-parts, ready, view, view-small, decision, black-by-view, few-flying, request-waits, request-opens, moved-sound, activated-sound}
+use Rattle.calls.proofs.Requests.{narrow-widest, bounds, turned-parts, ready, view, view-small, decision, black-by-view, few-flying, request-waits, request-opens, moved-sound, activated-sound}
 use borrow.Author.Needs.{needs}
 use Rattle.calls.proofs.request.Statement.{statement}
 use Rattle.calls.proofs.request.Tie as tie
@@ -37,9 +37,6 @@ at c f = places (c .args .seeds .now) (c .args .row)
 ok : (c : tie.Start) → let a = c .args in Taken limits01 (a .s) (a .seeds .now) (entry c) (a .tick) (a .bank) (a .thread)
 ok c = let a = c .args in taken limits01 (a .s) (a .seeds .now) (entry c) (a .tick) (a .bank) (a .thread) (c .pre)
 
-wide : Within-widest limits01
-wide = record { threshold = omega arith; history = omega arith }
-
 -- the state whose clock has moved
 abbrev moved : tie.After-turn → State
 moved c = let a = c .before .before .before .before .before .before .before .before .args in state (c .turn .result .head) (c .turn .last .1 .1 .0) (a .ticks .now) (a .rows .now) (c .turn .last .1 .1 .1 .0)
@@ -49,30 +46,33 @@ turned-to c = turned (s c) (entry c) (c .args .tick)
 
 moved-is : (c : tie.After-turn) → moved c ≡ turned-to (c .before .before .before .before .before .before .before .before)
 moved-is c =
-    turned-parts (c .before .before .before .before .before .before .before .before .args .s) (entry (c .before .before .before .before .before .before .before .before)) (c .before .before .before .before .before .before .before .before .args .tick) (c .turn .result .head) (c .turn .last .1 .1 .0) (c .turn .last .1 .1 .1 .0)
+    let start = c .before .before .before .before .before .before .before .before in
+    turned-parts (start .args .s) (entry start) (start .args .tick) (c .turn .result .head) (c .turn .last .1 .1 .0) (c .turn .last .1 .1 .1 .0)
     (c .turn .ensures .0) (c .turn .ensures .1) (c .turn .ensures .2)
 
-ready-here : (c : tie.After-turn) → let x = moved c in Ready (c .before .before .before .before .before .before .before .before .args .s) (x .head) (x .ticks) (x .rows) (x .threads) (c .before .before .before .before .before .before .before .before .args .bank) (c .before .before .before .before .before .before .before .before .args .thread)
+ready-here : (c : tie.After-turn) → let start = c .before .before .before .before .before .before .before .before in let x = moved c in Ready (start .args .s) (x .head) (x .ticks) (x .rows) (x .threads) (start .args .bank) (start .args .thread)
 ready-here c =
-    let a = c .before .before .before .before .before .before .before .before .args in
+    let start = c .before .before .before .before .before .before .before .before in
+    let a = start .args in
     subst (λ x. Ready (a .s) (x .head) (x .ticks) (x .rows) (x .threads) (a .bank) (a .thread)) (sym (moved-is c))
-    (ready limits01 wide (a .s) (a .seeds .now) (entry (c .before .before .before .before .before .before .before .before)) (a .tick) (a .bank) (a .thread) (a .row) (ok (c .before .before .before .before .before .before .before .before)))
+    (ready limits01 narrow-widest (a .s) (a .seeds .now) (entry start) (a .tick) (a .bank) (a .thread) (a .row) (ok start))
 
 -- the places that the code passes are the row's, in both filters
 at-is : (c : tie.After-places) → two (c .places .result) (c .places .result) ≡ at (c .before .before .before .before .before .before .before .before .before .before .before .before .before .before)
 at-is c = both-same (c .places .ensures .0)
 
-view-is : (c : tie.After-look) → let a = c .before .before .before .before .before .before .before .before .before .before .before .before .before .before .before .before .before .before .before .args in c .look .result ≡ view limits01 wide (a .s) (a .seeds .now) (entry (c .before .before .before .before .before .before .before .before .before .before .before .before .before .before .before .before .before .before .before)) (a .tick) (a .bank) (a .thread) (a .row) (ok (c .before .before .before .before .before .before .before .before .before .before .before .before .before .before .before .before .before .before .before))
+view-is : (c : tie.After-look) → let start = c .before .before .before .before .before .before .before .before .before .before .before .before .before .before .before .before .before .before .before in let a = start .args in c .look .result ≡ view limits01 narrow-widest (a .s) (a .seeds .now) (entry start) (a .tick) (a .bank) (a .thread) (a .row) (ok start)
 view-is c =
     let a = c .before .before .before .before .before .before .before .before .before .before .before .before .before .before .before .before .before .before .before .args in
     c .look .ensures
     ∙ ap₂ (λ y x. viewOf narrow (a .s) (activeEstimate (a .s) y x (a .bank)) (passiveEstimate (a .s) y x (a .bank)) (x .head) (x .ticks) (x .rows) (x .threads) (a .bank) (a .thread) (a .row))
     (at-is (c .before .before .before .before .before)) (moved-is (c .before .before .before .before .before .before .before .before .before .before .before))
 
-decided : (c : tie.After-decide) → let a = c .before .before .before .before .before .before .before .before .before .before .before .before .before .before .before .before .before .before .before .before .args in c .decide .result ≡ decide narrow (a .s) (at (c .before .before .before .before .before .before .before .before .before .before .before .before .before .before .before .before .before .before .before .before)) (turned-to (c .before .before .before .before .before .before .before .before .before .before .before .before .before .before .before .before .before .before .before .before)) (a .bank) (a .thread) (a .row)
+decided : (c : tie.After-decide) → let start = c .before .before .before .before .before .before .before .before .before .before .before .before .before .before .before .before .before .before .before .before in let a = start .args in c .decide .result ≡ decide narrow (a .s) (at start) (turned-to start) (a .bank) (a .thread) (a .row)
 decided c =
-    let a = c .before .before .before .before .before .before .before .before .before .before .before .before .before .before .before .before .before .before .before .before .args in
-    decision limits01 wide (a .s) (a .seeds .now) (entry (c .before .before .before .before .before .before .before .before .before .before .before .before .before .before .before .before .before .before .before .before)) (a .tick) (a .bank) (a .thread) (a .row) (ok (c .before .before .before .before .before .before .before .before .before .before .before .before .before .before .before .before .before .before .before .before))
+    let start = c .before .before .before .before .before .before .before .before .before .before .before .before .before .before .before .before .before .before .before .before in
+    let a = start .args in
+    decision limits01 narrow-widest (a .s) (a .seeds .now) (entry start) (a .tick) (a .bank) (a .thread) (a .row) (ok start)
     (c .before .look .result) (c .decide .result) (view-is (c .before)) (c .decide .ensures)
 
 -- the request is opened
@@ -82,28 +82,34 @@ opened c = sym (c .before .answer-number .ensures) ∙ c .if1 .left
 turn-requires : tie.Need-turn-requires
 turn-requires c κs =
     let k = ok (c .before .before .before .before .before .before .before) in
-    (bounds wide (k .setting), k .long .counters, k .long .threads, k .later)
+    (bounds narrow-widest (k .setting), k .long .counters, k .long .threads, k .later)
 
 places-requires : tie.Need-places-requires
-places-requires c κs = is-true (seedsInRange (c .before .before .before .before .before .before .before .before .before .before .before .before .before .args .seeds .now)) (ok (c .before .before .before .before .before .before .before .before .before .before .before .before .before) .setting .seeds-ok)
+places-requires c κs =
+    let start = c .before .before .before .before .before .before .before .before .before .before .before .before .before in
+    is-true (seedsInRange (start .args .seeds .now)) (ok start .setting .seeds-ok)
 
 look-requires : tie.Need-look-requires
 unfolding movedHead
 look-requires c κs =
-    let k = ok (c .before .before .before .before .before .before .before .before .before .before .before .before .before .before .before .before .before .before) in
-    let h = c .before .before .before .before .before .before .before .before .before .before .turn .ensures in (
-      ready-here (c .before .before .before .before .before .before .before .before .before .before),
-      omega (arith, k .long .counters, c .before .before .before .before .before .before .before .before .before .before .turn .kept .1 .1 .0),
-      c .before .before .before .before .places .ensures .1,
-      c .before .before .before .before .places .ensures .1,
-      h .3 ∙ ap (λ d. epoch (c .before .before .before .before .before .before .before .before .before .before .before .before .before .before .before .before .before .before .args .s) (d .last)) (sym (h .0)),
+    let start = c .before .before .before .before .before .before .before .before .before .before .before .before .before .before .before .before .before .before in
+    let at-turn = c .before .before .before .before .before .before .before .before .before .before in
+    let at-places = c .before .before .before .before in
+    let k = ok start in
+    let h = at-turn .turn .ensures in (
+      ready-here at-turn,
+      omega (arith, k .long .counters, at-turn .turn .kept .1 .1 .0),
+      at-places .places .ensures .1,
+      at-places .places .ensures .1,
+      h .3 ∙ ap (λ d. epoch (start .args .s) (d .last)) (sym (h .0)),
     )
 
 decide-requires : tie.Need-decide-requires
 decide-requires c κs =
-    let a = c .before .before .before .before .before .before .before .before .before .before .before .before .before .before .before .before .before .before .before .args in
-    let r = bounds wide (ok (c .before .before .before .before .before .before .before .before .before .before .before .before .before .before .before .before .before .before .before) .setting) .ranges in
-    let v = view-small limits01 wide (a .s) (a .seeds .now) (entry (c .before .before .before .before .before .before .before .before .before .before .before .before .before .before .before .before .before .before .before)) (a .tick) (a .bank) (a .thread) (a .row) (ok (c .before .before .before .before .before .before .before .before .before .before .before .before .before .before .before .before .before .before .before)) (c .look .result) (view-is (c)) in
+    let start = c .before .before .before .before .before .before .before .before .before .before .before .before .before .before .before .before .before .before .before in
+    let a = start .args in
+    let r = bounds narrow-widest (ok start .setting) .ranges in
+    let v = view-small limits01 narrow-widest (a .s) (a .seeds .now) (entry start) (a .tick) (a .bank) (a .thread) (a .row) (ok start) (c .look .result) (view-is (c)) in
     (r .trc-high, r .tfaw-high, v .0, v .1)
 
 answer-number-requires : tie.Need-answer-number-requires
@@ -123,27 +129,35 @@ same-length-4 c = search needs
 
 returns : tie.Need-returns
 returns c =
-    let a = c .before .before .before .before .before .before .before .before .before .before .before .before .before .before .before .before .before .before .before .before .before .before .args in
-    let st = entry (c .before .before .before .before .before .before .before .before .before .before .before .before .before .before .before .before .before .before .before .before .before .before) in (
-      request-waits limits01 wide (a .s) (a .seeds .now) st (a .tick) (a .bank) (a .thread) (a .row) (ok (c .before .before .before .before .before .before .before .before .before .before .before .before .before .before .before .before .before .before .before .before .before .before)) (c .before .before .decide .result) (moved (c .before .before .before .before .before .before .before .before .before .before .before .before .before .before)) (moved-is (c .before .before .before .before .before .before .before .before .before .before .before .before .before .before)) (decided (c .before .before))
+    let start = c .before .before .before .before .before .before .before .before .before .before .before .before .before .before .before .before .before .before .before .before .before .before in
+    let at-14 = c .before .before .before .before .before .before .before .before .before .before .before .before .before .before in
+    let at-decide = c .before .before in
+    let a = start .args in
+    let st = entry start in (
+      request-waits limits01 narrow-widest (a .s) (a .seeds .now) st (a .tick) (a .bank) (a .thread) (a .row) (ok start) (at-decide .decide .result) (moved at-14) (moved-is at-14) (decided at-decide)
           (λ z. c .if1 .taken (c .before .answer-number .ensures ∙ z)),
-      subst (λ x. Sound (a .s) x) (sym (moved-is (c .before .before .before .before .before .before .before .before .before .before .before .before .before .before))) (moved-sound limits01 wide (a .s) (a .seeds .now) st (a .tick) (a .bank) (a .thread) (a .row) (ok (c .before .before .before .before .before .before .before .before .before .before .before .before .before .before .before .before .before .before .before .before .before .before))),
+      subst (λ x. Sound (a .s) x) (sym (moved-is at-14)) (moved-sound limits01 narrow-widest (a .s) (a .seeds .now) st (a .tick) (a .bank) (a .thread) (a .row) (ok start)),
     )
 
 activate-requires : tie.Need-activate-requires
 activate-requires c κs =
-    let a = c .before .before .before .before .before .before .before .before .before .before .before .before .before .before .before .before .before .before .before .before .before .before .before .before .before .before .before .before .args in
-    let st = entry (c .before .before .before .before .before .before .before .before .before .before .before .before .before .before .before .before .before .before .before .before .before .before .before .before .before .before .before .before) in
-    let k = ok (c .before .before .before .before .before .before .before .before .before .before .before .before .before .before .before .before .before .before .before .before .before .before .before .before .before .before .before .before) in
-    let few = few-flying limits01 wide (a .s) (a .seeds .now) st (a .tick) (a .bank) (a .thread) (a .row) k (c .before .before .before .before .before .before .before .before .decide .result) (decided (c .before .before .before .before .before .before .before .before)) (opened (c .before .before .before .before .before .before)) in
-    let black = black-by-view limits01 wide (a .s) (a .seeds .now) st (a .tick) (a .bank) (a .thread) (a .row) k (c .before .before .before .before .before .before .before .before .before .look .result) (view-is (c .before .before .before .before .before .before .before .before .before)) in (
-      ready-here (c .before .before .before .before .before .before .before .before .before .before .before .before .before .before .before .before .before .before .before .before),
-      omega (arith, k .long .counters, c .before .before .before .before .before .before .before .before .before .before .before .before .before .before .before .before .before .before .before .before .turn .kept .1 .1 .0),
-      c .before .before .before .before .before .before .before .before .before .before .before .before .before .before .places .ensures .1,
-      c .before .before .before .before .before .before .before .before .before .before .before .before .before .before .places .ensures .1,
+    let start = c .before .before .before .before .before .before .before .before .before .before .before .before .before .before .before .before .before .before .before .before .before .before .before .before .before .before .before .before in
+    let at-turn = c .before .before .before .before .before .before .before .before .before .before .before .before .before .before .before .before .before .before .before .before in
+    let at-places = c .before .before .before .before .before .before .before .before .before .before .before .before .before .before in
+    let at-look = c .before .before .before .before .before .before .before .before .before in
+    let at-decide = c .before .before .before .before .before .before .before .before in
+    let a = start .args in
+    let st = entry start in
+    let k = ok start in
+    let few = few-flying limits01 narrow-widest (a .s) (a .seeds .now) st (a .tick) (a .bank) (a .thread) (a .row) k (at-decide .decide .result) (decided at-decide) (opened (c .before .before .before .before .before .before)) in
+    let black = black-by-view limits01 narrow-widest (a .s) (a .seeds .now) st (a .tick) (a .bank) (a .thread) (a .row) k (at-look .look .result) (view-is at-look) in (
+      ready-here at-turn,
+      omega (arith, k .long .counters, at-turn .turn .kept .1 .1 .0),
+      at-places .places .ensures .1,
+      at-places .places .ensures .1,
       omega (arith, k .setting .ranges .n-high),
-      subst (λ x. getD (x .threads) (threadCell (a .s) (a .bank) (a .thread) 2) 0 < 255) (sym (moved-is (c .before .before .before .before .before .before .before .before .before .before .before .before .before .before .before .before .before .before .before .before))) few,
-      black ∙ sym (ap₂ (λ y x. blacklisted (a .s .n) (activeEstimate (a .s) y x (a .bank))) (at-is (c .before .before .before .before .before .before .before .before .before .before .before .before .before .before)) (moved-is (c .before .before .before .before .before .before .before .before .before .before .before .before .before .before .before .before .before .before .before .before))),
+      subst (λ x. getD (x .threads) (threadCell (a .s) (a .bank) (a .thread) 2) 0 < 255) (sym (moved-is at-turn)) few,
+      black ∙ sym (ap₂ (λ y x. blacklisted (a .s .n) (activeEstimate (a .s) y x (a .bank))) (at-is at-places) (moved-is at-turn)),
     )
 
 same-length-5 : tie.Need-same-length-5
@@ -160,14 +174,17 @@ same-length-8 c = c .before .before .before .before .before .before .before .bef
 
 returns-2 : tie.Need-returns-2
 returns-2 c =
-    let a = c .before .before .before .before .before .before .before .before .before .before .before .before .before .before .before .before .before .before .before .before .before .before .before .before .before .before .before .before .before .before .before .before .before .before .before .before .before .args in
-    let st = entry (c .before .before .before .before .before .before .before .before .before .before .before .before .before .before .before .before .before .before .before .before .before .before .before .before .before .before .before .before .before .before .before .before .before .before .before .before .before) in
-    let x = c .before .before .before .before .before .before .before .before .activate .last in
-    let z = state (c .before .before .before .before .before .before .before .before .activate .result) (x .1 .1 .0) (x .1 .1 .1 .0) (x .1 .1 .1 .1 .0) (x .1 .1 .1 .1 .1 .0) in
-    let after : z ≡ activated (a .s) (at (c .before .before .before .before .before .before .before .before .before .before .before .before .before .before .before .before .before .before .before .before .before .before .before .before .before .before .before .before .before .before .before .before .before .before .before .before .before)) (turned-to (c .before .before .before .before .before .before .before .before .before .before .before .before .before .before .before .before .before .before .before .before .before .before .before .before .before .before .before .before .before .before .before .before .before .before .before .before .before)) (a .bank) (a .thread) (a .row) =
-    c .before .before .before .before .before .before .before .before .activate .ensures ∙ ap₂ (λ y x. activated (a .s) y x (a .bank) (a .thread) (a .row)) (at-is (c .before .before .before .before .before .before .before .before .before .before .before .before .before .before .before .before .before .before .before .before .before .before .before)) (moved-is (c .before .before .before .before .before .before .before .before .before .before .before .before .before .before .before .before .before .before .before .before .before .before .before .before .before .before .before .before .before)) in (
-      request-opens limits01 wide (a .s) (a .seeds .now) st (a .tick) (a .bank) (a .thread) (a .row) (ok (c .before .before .before .before .before .before .before .before .before .before .before .before .before .before .before .before .before .before .before .before .before .before .before .before .before .before .before .before .before .before .before .before .before .before .before .before .before)) (c .before .before .before .before .before .before .before .before .before .before .before .before .before .before .before .before .before .decide .result) z after (decided (c .before .before .before .before .before .before .before .before .before .before .before .before .before .before .before .before .before)) (opened (c .before .before .before .before .before .before .before .before .before .before .before .before .before .before .before)),
-      subst (λ x. Sound (a .s) x) (sym after) (activated-sound limits01 wide (a .s) (a .seeds .now) st (a .tick) (a .bank) (a .thread) (a .row) (ok (c .before .before .before .before .before .before .before .before .before .before .before .before .before .before .before .before .before .before .before .before .before .before .before .before .before .before .before .before .before .before .before .before .before .before .before .before .before))),
+    let start = c .before .before .before .before .before .before .before .before .before .before .before .before .before .before .before .before .before .before .before .before .before .before .before .before .before .before .before .before .before .before .before .before .before .before .before .before .before in
+    let at-decide = c .before .before .before .before .before .before .before .before .before .before .before .before .before .before .before .before .before in
+    let at-activate = c .before .before .before .before .before .before .before .before in
+    let a = start .args in
+    let st = entry start in
+    let x = at-activate .activate .last in
+    let z = state (at-activate .activate .result) (x .1 .1 .0) (x .1 .1 .1 .0) (x .1 .1 .1 .1 .0) (x .1 .1 .1 .1 .1 .0) in
+    let after : z ≡ activated (a .s) (at start) (turned-to start) (a .bank) (a .thread) (a .row) =
+    at-activate .activate .ensures ∙ ap₂ (λ y x. activated (a .s) y x (a .bank) (a .thread) (a .row)) (at-is (c .before .before .before .before .before .before .before .before .before .before .before .before .before .before .before .before .before .before .before .before .before .before .before)) (moved-is (c .before .before .before .before .before .before .before .before .before .before .before .before .before .before .before .before .before .before .before .before .before .before .before .before .before .before .before .before .before)) in (
+      request-opens limits01 narrow-widest (a .s) (a .seeds .now) st (a .tick) (a .bank) (a .thread) (a .row) (ok start) (at-decide .decide .result) z after (decided at-decide) (opened (c .before .before .before .before .before .before .before .before .before .before .before .before .before .before .before)),
+      subst (λ x. Sound (a .s) x) (sym after) (activated-sound limits01 narrow-widest (a .s) (a .seeds .now) st (a .tick) (a .bank) (a .thread) (a .row) (ok start)),
     )
 
 pub request-spec : {M : Type 1} → statement M

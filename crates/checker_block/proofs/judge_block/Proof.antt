@@ -15,7 +15,7 @@ abbrev before : tie.Start → Running
 before c = let a = c .args in readSoFar (a .x) (a .counters .now) (a .ticks .now) (a .rows .now) (a .threads .now)
 
 -- the block is sound
-sound : (c : tie.Else1) → let p = c .before .before .before .before .before .before .before .args .x .progress in logRefusalNumber (blockRefusal (c .before .before .before .before .before .before .before .args .block .now) (p .blocks) (p .last)) ≡ 0
+sound : (c : tie.Else1) → let start = c .before .before .before .before .before .before .before in let p = start .args .x .progress in logRefusalNumber (blockRefusal (start .args .block .now) (p .blocks) (p .last)) ≡ 0
 sound c = sym (c .before .refusal .ensures .0) ∙ c .if1 .left
 
 refusal-requires : tie.Need-refusal-requires
@@ -25,7 +25,9 @@ cast-t10 : tie.Need-cast-t10
 cast-t10 c = search needs
 
 returns : tie.Need-returns
-returns c = block-refused (before (c .before .before .before .before .before .before .before)) (c .before .before .before .before .before .before .before .args .block .now) (c .before .refusal .result) (before (c .before .before .before .before .before .before .before)) (c .before .refusal .ensures .0) (c .if1 .taken)
+returns c =
+    let start = c .before .before .before .before .before .before .before in
+    block-refused (before start) (start .args .block .now) (c .before .refusal .result) (before start) (c .before .refusal .ensures .0) (c .if1 .taken)
 
 judge-start-requires : tie.Need-judge-start-requires
 judge-start-requires c κs = search needs
@@ -43,10 +45,15 @@ same-length-4 : tie.Need-same-length-4
 same-length-4 c = search needs
 
 returns-2 : tie.Need-returns-2
-returns-2 c = block-started (before (c .before .before .before .before .before .before .before .before .before .before .before .before .before .before .before .before .before .before .before .before .before .before)) (c .before .before .before .before .before .before .before .before .before .before .before .before .before .before .before .before .before .before .before .before .before .before .args .block .now) _ _ _ (sound (c .before .before .before .before .before .before .before .before .before .before .before .before .before .before .before)) (c .before .before .before .before .before .before .before .before .before .before .before .before .before .if2 .taken) (c .before .before .before .before .before .before .before .before .judge-start .ensures)
+returns-2 c =
+    let start = c .before .before .before .before .before .before .before .before .before .before .before .before .before .before .before .before .before .before .before .before .before .before in
+    block-started (before start) (start .args .block .now) _ _ _ (sound (c .before .before .before .before .before .before .before .before .before .before .before .before .before .before .before)) (c .before .before .before .before .before .before .before .before .before .before .before .before .before .if2 .taken) (c .before .before .before .before .before .before .before .before .judge-start .ensures)
 
 judge-later-requires : tie.Need-judge-later-requires
-judge-later-requires c κs = (c .before .before .before .before .before .before .before .before .before .before .before .before .before .pre, omega arith, c .before .before .before .before .before .before .before .refusal .ensures .1 (c .before .before .before .before .before .before .if1 .left), block-count (before (c .before .before .before .before .before .before .before .before .before .before .before .before .before)) (c .before .before .before .before .before .before .before .before .before .before .before .before .before .args .block .now) (sound (c .before .before .before .before .before .before)) (c .before .before .before .before .if2 .left))
+judge-later-requires c κs =
+    let start = c .before .before .before .before .before .before .before .before .before .before .before .before .before in
+    let at-if1 = c .before .before .before .before .before .before in
+    (start .pre, omega arith, c .before .before .before .before .before .before .before .refusal .ensures .1 (at-if1 .if1 .left), block-count (before start) (start .args .block .now) (sound at-if1) (c .before .before .before .before .if2 .left))
 
 same-length-5 : tie.Need-same-length-5
 same-length-5 c = search needs
@@ -61,7 +68,9 @@ same-length-8 : tie.Need-same-length-8
 same-length-8 c = search needs
 
 returns-3 : tie.Need-returns-3
-returns-3 c = rw (block-later (before (c .before .before .before .before .before .before .before .before .before .before .before .before .before .before .before .before .before .before .before .before .before .before)) (c .before .before .before .before .before .before .before .before .before .before .before .before .before .before .before .before .before .before .before .before .before .before .args .block .now) (sound (c .before .before .before .before .before .before .before .before .before .before .before .before .before .before .before)) (c .before .before .before .before .before .before .before .before .before .before .before .before .before .if2 .left)) (c .before .before .before .before .before .before .before .before .judge-later .ensures)
+returns-3 c =
+    let start = c .before .before .before .before .before .before .before .before .before .before .before .before .before .before .before .before .before .before .before .before .before .before in
+    rw (block-later (before start) (start .args .block .now) (sound (c .before .before .before .before .before .before .before .before .before .before .before .before .before .before .before)) (c .before .before .before .before .before .before .before .before .before .before .before .before .before .if2 .left)) (c .before .before .before .before .before .before .before .before .judge-later .ensures)
 
 pub judge-block-spec : {M : Type 1} → statement M
 judge-block-spec =

@@ -35,11 +35,13 @@ same-length-4 c = search needs
 
 returns : tie.Need-returns
 returns c =
+    let at-setting = c .before .before .before .before .before .before .before .before .before .before .before .before .before .before .before .before .before in
+    let at-seeds = c .before .before .before .before .before .before .before .before .before .before .before .before .before .before .before .before in
     let a = c .before .before .before .before .before .before .before .before .before .before .before .before .before .before .before .before .before .before .before .before .before .before .args in
     let q = c .before .before .before .before .before .before .before .before .before .setup in
-    start-judged (readSoFar (a .x) (a .counters .now) (a .ticks .now) (a .rows .now) (a .threads .now)) (a .block .now) (c .before .before .before .before .before .before .before .before .before .before .before .before .before .before .before .before .before .setting .result) (c .before .before .before .before .before .before .before .before .before .before .before .before .before .before .before .before .seeds .result) (q .result .code)
+    start-judged (readSoFar (a .x) (a .counters .now) (a .ticks .now) (a .rows .now) (a .threads .now)) (a .block .now) (at-setting .setting .result) (at-seeds .seeds .result) (q .result .code)
     (state (q .result .head) (q .last .1 .1 .1 .0) (q .last .1 .1 .1 .1 .0) (q .last .1 .1 .1 .1 .1 .0) (q .last .1 .1 .1 .1 .1 .1 .0))
-    (c .before .before .before .before .before .before .before .before .before .before .before .before .before .before .before .before .before .setting .ensures) (c .before .before .before .before .before .before .before .before .before .before .before .before .before .before .before .before .seeds .ensures) (q .ensures)
+    (at-setting .setting .ensures) (at-seeds .seeds .ensures) (q .ensures)
 
 pub judge-start-spec : {M : Type 1} → statement M
 judge-start-spec =

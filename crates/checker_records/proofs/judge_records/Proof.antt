@@ -39,7 +39,9 @@ count-requires : tie.Need-count-requires Inv-loop μ-loop
 count-requires c κs = search needs
 
 loop-holds : tie.Need-loop-holds Inv-loop μ-loop
-loop-holds c = (omega arith, refl, refl, refl, refl, going-none (c .before .before .before .before .before .before .args .s) (c .before .before .before .before .before .before .args .seeds .now) (c .before .before .before .before .before .before .args .block .now) (c .before .before .before .before .before .before .args .p) (c .count .result) (entry c) ((c .before .before .before .before .before .before) .pre .1))
+loop-holds c =
+    let start = c .before .before .before .before .before .before in
+    (omega arith, refl, refl, refl, refl, going-none (start .args .s) (start .args .seeds .now) (start .args .block .now) (start .args .p) (c .count .result) (entry c) (start .pre .1))
 
 entry-at-requires : tie.Need-entry-at-requires Inv-loop μ-loop
 entry-at-requires c κs =
@@ -49,11 +51,12 @@ entry-at-requires c κs =
 
 judge-record-requires : tie.Need-judge-record-requires Inv-loop μ-loop
 judge-record-requires c κs =
+    let start = c .before .before .before .before .before .before .before .before .before .before .before .before .before in
     let g = c .before .before .before .before .before .before .loop .inv .5 in
     let t = c .before .before .before .before .before .loop-test .taken in
     let n = few (c .before .before .before .before .before .before .before) in
-    let room = (c .before .before .before .before .before .before .before .before .before .before .before .before .before) .pre .2 in
-    ((c .before .before .before .before .before .before .before .before .before .before .before .before .before) .pre .0, g .sound, record { records = omega (arith, room .records); opened = omega (arith, room .opened); last = omega (arith, room .last) })
+    let room = start .pre .2 in
+    (start .pre .0, g .sound, record { records = omega (arith, room .records); opened = omega (arith, room .opened); last = omega (arith, room .last) })
 
 same-length : tie.Need-same-length Inv-loop μ-loop
 same-length c = search needs
@@ -69,12 +72,16 @@ same-length-4 c = search needs
 
 returns : tie.Need-returns Inv-loop μ-loop
 returns c =
+    let at-count = c .before .before .before .before .before .before .before .before .before .before .before .before .before .before .before .before .before in
+    let at-loop = c .before .before .before .before .before .before .before .before .before .before .before .before .before .before .before .before in
+    let at-entry-at = c .before .before .before .before .before .before .before .before .before .before .before .before .before .before in
+    let at-judge-record = c .before .before .before .before .before .before .before .before .before in
     let a = c .before .before .before .before .before .before .before .before .before .before .before .before .before .before .before .before .before .before .before .before .before .before .before .args in
-    let l = c .before .before .before .before .before .before .before .before .before .before .before .before .before .before .before .before .loop in
-    let n = few (c .before .before .before .before .before .before .before .before .before .before .before .before .before .before .before .before .before) in
-    let e : c .before .before .before .before .before .before .before .before .before .before .before .before .before .before .before .before .before .count .result ≡ countIn (a .block .now) = c .before .before .before .before .before .before .before .before .before .before .before .before .before .before .before .before .before .count .ensures .0 in
-    rw e at (going-over (a .s) (a .seeds .now) (a .block .now) (a .p) (c .before .before .before .before .before .before .before .before .before .before .before .before .before .before .before .before .before .count .result) (entry (c .before .before .before .before .before .before .before .before .before .before .before .before .before .before .before .before .before)) (l .k) (l .progress) (at-head (c .before .before .before .before .before .before .before .before .before .before .before .before .before .before .before .before)) (l .inv .5) (c .before .before .before .before .before .before .before .before .before .before .before .before .before .before .before .loop-test .taken)
-    (c .before .before .before .before .before .before .before .before .before .before .before .before .before .before .entry-at .result) (c .before .before .before .before .before .before .before .before .before .before .before .before .before .before .entry-at .ensures) (c .before .before .before .before .before .before .before .before .before .judge-record .result) (left (c .before .before .before .before .before .before .before .before .before)) (c .before .before .before .before .before .before .before .before .before .judge-record .ensures) (c .if1 .taken) n)
+    let l = at-loop .loop in
+    let n = few at-count in
+    let e : at-count .count .result ≡ countIn (a .block .now) = at-count .count .ensures .0 in
+    rw e at (going-over (a .s) (a .seeds .now) (a .block .now) (a .p) (at-count .count .result) (entry at-count) (l .k) (l .progress) (at-head at-loop) (l .inv .5) (c .before .before .before .before .before .before .before .before .before .before .before .before .before .before .before .loop-test .taken)
+    (at-entry-at .entry-at .result) (at-entry-at .entry-at .ensures) (at-judge-record .judge-record .result) (left at-judge-record) (at-judge-record .judge-record .ensures) (c .if1 .taken) n)
 
 add-k : tie.Need-add-k Inv-loop μ-loop
 add-k c = search needs
@@ -84,17 +91,22 @@ loop-less c = search needs
 
 loop-again : tie.Need-loop-again Inv-loop μ-loop
 loop-again c =
+    let at-count = c .before .before .before .before .before .before .before .before .before .before .before .before .before .before .before .before .before .before .before in
+    let at-loop = c .before .before .before .before .before .before .before .before .before .before .before .before .before .before .before .before .before .before in
+    let at-loop-test = c .before .before .before .before .before .before .before .before .before .before .before .before .before .before .before .before .before in
+    let at-entry-at = c .before .before .before .before .before .before .before .before .before .before .before .before .before .before .before .before in
+    let at-judge-record = c .before .before .before .before .before .before .before .before .before .before .before in
     let a = c .before .before .before .before .before .before .before .before .before .before .before .before .before .before .before .before .before .before .before .before .before .before .before .before .before .args in
-    let l = c .before .before .before .before .before .before .before .before .before .before .before .before .before .before .before .before .before .before .loop in
-    let q = c .before .before .before .before .before .before .before .before .before .before .before .judge-record in
-    let t = c .before .before .before .before .before .before .before .before .before .before .before .before .before .before .before .before .before .loop-test .taken in (
+    let l = at-loop .loop in
+    let q = at-judge-record .judge-record in
+    let t = at-loop-test .loop-test .taken in (
       omega arith,
       q .kept .1 .1 .1 .0 ∙ l .inv .1,
       q .kept .1 .1 .1 .1 .0 ∙ l .inv .2,
       q .kept .1 .1 .1 .1 .1 .0 ∙ l .inv .3,
       q .kept .1 .1 .1 .1 .1 .1 .0 ∙ l .inv .4,
-      going-more (a .s) (a .seeds .now) (a .block .now) (a .p) (c .before .before .before .before .before .before .before .before .before .before .before .before .before .before .before .before .before .before .before .count .result) (entry (c .before .before .before .before .before .before .before .before .before .before .before .before .before .before .before .before .before .before .before)) (l .k) (l .progress) (at-head (c .before .before .before .before .before .before .before .before .before .before .before .before .before .before .before .before .before .before)) (l .inv .5) (c .before .before .before .before .before .before .before .before .before .before .before .before .before .before .before .before .before .loop-test .taken)
-          (c .before .before .before .before .before .before .before .before .before .before .before .before .before .before .before .before .entry-at .result) (c .before .before .before .before .before .before .before .before .before .before .before .before .before .before .before .before .entry-at .ensures) (q .result) (left (c .before .before .before .before .before .before .before .before .before .before .before)) (q .ensures) (c .before .before .if1 .left),
+      going-more (a .s) (a .seeds .now) (a .block .now) (a .p) (at-count .count .result) (entry at-count) (l .k) (l .progress) (at-head at-loop) (l .inv .5) (at-loop-test .loop-test .taken)
+          (at-entry-at .entry-at .result) (at-entry-at .entry-at .ensures) (q .result) (left at-judge-record) (q .ensures) (c .before .before .if1 .left),
     )
 
 same-length-5 : tie.Need-same-length-5 Inv-loop μ-loop
@@ -111,13 +123,14 @@ same-length-8 c = search needs
 
 returns-2 : tie.Need-returns-2 Inv-loop μ-loop
 returns-2 c =
+    let at-count = c .before .before in
     let a = c .before .before .before .before .before .before .before .before .args in
     let l = c .before .loop in
-    let n = few (c .before .before) in
+    let n = few at-count in
     let t = c .loop-test .left in
     let i = l .inv .0 in
-    let e : c .before .before .count .result ≡ countIn (a .block .now) = c .before .before .count .ensures .0 in
-    rw e at (going-all (a .s) (a .seeds .now) (a .block .now) (a .p) (c .before .before .count .result) (entry (c .before .before)) (l .k) (l .progress) (at-head (c .before)) (Agrees (l .progress .records) (l .progress .opened)) (l .head) (l .inv .5) (omega arith) n)
+    let e : at-count .count .result ≡ countIn (a .block .now) = at-count .count .ensures .0 in
+    rw e at (going-all (a .s) (a .seeds .now) (a .block .now) (a .p) (at-count .count .result) (entry at-count) (l .k) (l .progress) (at-head (c .before)) (Agrees (l .progress .records) (l .progress .opened)) (l .head) (l .inv .5) (omega arith) n)
 
 pub judge-records-spec : {M : Type 1} → statement M
 judge-records-spec =

@@ -29,11 +29,14 @@ same-length-4 c = search needs
 
 returns : tie.Need-returns
 returns c =
-    let a = c .before .before .before .before .before .before .before .before .before .before .before .before .before .before .before .before .before .before .before .args in
+    let start = c .before .before .before .before .before .before .before .before .before .before .before .before .before .before .before .before .before .before .before in
+    let at-count = c .before .before .before .before .before .before .before .before .before .before .before .before in
+    let at-activate = c .before .before .before .before .before .before in
+    let a = start .args in
     let st = state (a .h) (a .counters .now) (a .ticks .now) (a .rows .now) (a .threads .now) in
-    let x = c .before .before .before .before .before .before .activate .last in
-    activated-parts (a .s) (two (a .first) (a .second)) st (state (c .before .before .before .before .before .before .activate .result) (c .before .before .before .before .before .before .before .before .before .before .before .before .count .last .0) (x .1 .1 .0) (x .1 .1 .1 .0) (x .1 .1 .1 .1 .0)) (a .bank) (a .thread) (a .row) (a .black)
-    (c .before .before .before .before .before .before .before .before .before .before .before .before .before .before .before .before .before .before .before .pre .6) (c .before .before .before .before .before .before .activate .ensures .0) (c .before .before .before .before .before .before .before .before .before .before .before .before .count .ensures) (c .before .before .before .before .before .before .activate .ensures .1) (c .before .before .before .before .before .before .activate .ensures .2) (c .before .before .before .before .before .before .activate .ensures .3)
+    let x = at-activate .activate .last in
+    activated-parts (a .s) (two (a .first) (a .second)) st (state (at-activate .activate .result) (at-count .count .last .0) (x .1 .1 .0) (x .1 .1 .1 .0) (x .1 .1 .1 .1 .0)) (a .bank) (a .thread) (a .row) (a .black)
+    (start .pre .6) (at-activate .activate .ensures .0) (at-count .count .ensures) (at-activate .activate .ensures .1) (at-activate .activate .ensures .2) (at-activate .activate .ensures .3)
 
 pub activate-spec : {M : Type 1} → statement M
 activate-spec =

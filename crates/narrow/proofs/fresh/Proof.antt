@@ -22,13 +22,15 @@ clear-requires-2 c κs =
 
 mul-clear-2 : tie.Need-mul-clear-2
 mul-clear-2 c =
-    let r = c .before .before .before .before .before .before .before .before .before .before .before .before .before .before .before .before .before .before .before .pre .0 .ranges in
-    omega (arith, cells-small (c .before .before .before .before .before .before .before .before .before .before .before .before .before .before .before .before .before .before .before .args .s .banks) (c .before .before .before .before .before .before .before .before .before .before .before .before .before .before .before .before .before .before .before .args .s .threads) (r .banks-high) (r .threads-high))
+    let start = c .before .before .before .before .before .before .before .before .before .before .before .before .before .before .before .before .before .before .before in
+    let r = start .pre .0 .ranges in
+    omega (arith, cells-small (start .args .s .banks) (start .args .s .threads) (r .banks-high) (r .threads-high))
 
 mul-clear-3 : tie.Need-mul-clear-3
 mul-clear-3 c =
-    let r = c .before .before .before .before .before .before .before .before .before .before .before .before .before .before .before .before .before .before .before .pre .0 .ranges in
-    omega (arith, cells-small (c .before .before .before .before .before .before .before .before .before .before .before .before .before .before .before .before .before .before .before .args .s .banks) (c .before .before .before .before .before .before .before .before .before .before .before .before .before .before .before .before .before .before .before .args .s .threads) (r .banks-high) (r .threads-high))
+    let start = c .before .before .before .before .before .before .before .before .before .before .before .before .before .before .before .before .before .before .before in
+    let r = start .pre .0 .ranges in
+    omega (arith, cells-small (start .args .s .banks) (start .args .s .threads) (r .banks-high) (r .threads-high))
 
 clear-requires-3 : tie.Need-clear-requires-3
 clear-requires-3 c κs = search needs
@@ -47,7 +49,9 @@ same-length-4 c = search needs
 
 returns : tie.Need-returns
 unfolding fresh freshHead
-returns c = rw (c .before .before .before .before .before .before .before .before .before .before .before .before .before .before .before .clear .ensures, c .before .before .before .before .before .before .before .before .before .clear2 .ensures .0, c .before .before .before .before .before .before .before .before .before .clear2 .ensures .1, c .before .before .clear3 .ensures, c .before .before .before .before .before .before .before .before .before .before .history-length .ensures)
+returns c =
+    let at-clear2 = c .before .before .before .before .before .before .before .before .before in
+    rw (c .before .before .before .before .before .before .before .before .before .before .before .before .before .before .before .clear .ensures, at-clear2 .clear2 .ensures .0, at-clear2 .clear2 .ensures .1, c .before .before .clear3 .ensures, c .before .before .before .before .before .before .before .before .before .before .history-length .ensures)
 
 pub fresh-spec : {M : Type 1} → statement M
 fresh-spec =

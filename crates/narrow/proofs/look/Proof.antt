@@ -32,13 +32,15 @@ look-requires c κs = search needs
 
 returns : tie.Need-returns
 returns c =
-    let a = c .before .before .before .before .before .before .before .args in
-    let st = entry (c .before .before .before .before .before .before .before) in
+    let start = c .before .before .before .before .before .before .before in
+    let at-bank-estimate = c .before .before in
+    let a = start .args in
+    let st = entry start in
     let at = two (a .first) (a .second) in
     c .look .ensures
     ∙ ap₂ (λ x y. viewOf narrow (a .s) x y (a .h) (a .ticks .now) (a .rows .now) (a .threads .now) (a .bank) (a .thread) (a .row))
-    (active-read (a .s) at st (a .bank) (a .e) (c .before .before .bank-estimate .result) (c .before .before .before .before .before .before .before .pre .4) (c .before .before .bank-estimate .ensures))
-    (other-read (a .s) at st (a .bank) (a .e) (c .before .bank-estimate2 .result) (c .before .before .before .before .before .before .before .pre .4) (c .before .bank-estimate2 .ensures))
+    (active-read (a .s) at st (a .bank) (a .e) (at-bank-estimate .bank-estimate .result) (start .pre .4) (at-bank-estimate .bank-estimate .ensures))
+    (other-read (a .s) at st (a .bank) (a .e) (c .before .bank-estimate2 .result) (start .pre .4) (c .before .bank-estimate2 .ensures))
 
 pub look-spec : {M : Type 1} → statement M
 look-spec =

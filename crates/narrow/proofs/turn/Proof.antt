@@ -7,10 +7,14 @@ use Rattle.narrow.proofs.turn.Statement.{statement}
 use Rattle.narrow.proofs.turn.Tie as tie
 
 turn-requires : tie.Need-turn-requires
-turn-requires c κs = (c .before .before .before .pre .0, c .before .before .before .pre .2, c .before .before .before .pre .3)
+turn-requires c κs =
+    let start = c .before .before .before in
+    (start .pre .0, start .pre .2, start .pre .3)
 
 turn-requires-2 : tie.Need-turn-requires-2
-turn-requires-2 c κs = (c .before .before .before .before .before .before .before .before .pre .0 .ranges .banks-high, c .before .before .before .before .before .before .before .before .pre .1, c .before .before .before .before .turn .ensures .4)
+turn-requires-2 c κs =
+    let start = c .before .before .before .before .before .before .before .before in
+    (start .pre .0 .ranges .banks-high, start .pre .1, c .before .before .before .before .turn .ensures .4)
 
 same-length : tie.Need-same-length
 same-length c = search needs

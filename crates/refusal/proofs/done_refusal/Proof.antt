@@ -35,7 +35,9 @@ flying-refusal-requires c κs = let k = ok c in (k .bank-in, k .thread-in, k .se
 
 returns-2 : tie.Need-returns-2
 unfolding doneTest
-returns-2 c = c .flying-refusal .ensures ∙ ap refusalNumber (sym (orElse-second (front (c .before .before)) (last (c .before .before)) (sym (c .before .before .call-refusal .ensures) ∙ c .before .if1 .left)))
+returns-2 c =
+    let at-call-refusal = c .before .before in
+    c .flying-refusal .ensures ∙ ap refusalNumber (sym (orElse-second (front at-call-refusal) (last at-call-refusal) (sym (at-call-refusal .call-refusal .ensures) ∙ c .before .if1 .left)))
 
 pub done-refusal-spec : {M : Type 1} → statement M
 done-refusal-spec =

@@ -83,7 +83,9 @@ history-length-requires : tie.Need-history-length-requires
 history-length-requires c κs = let k = ok (c .before .before .before .before) in (k .tfaw-low, k .tfaw-high, k .td-high)
 
 returns-4 : tie.Need-returns-4
-returns-4 c = simp (left (c .before .before), ← c .before .before .history-length .ensures, lt-ltb _ _ (c .if4 .taken))
+returns-4 c =
+    let at-history-length = c .before .before in
+    simp (left at-history-length, ← at-history-length .history-length .ensures, lt-ltb _ _ (c .if4 .taken))
 
 above-limit-requires : tie.Need-above-limit-requires
 above-limit-requires c κs =
@@ -91,10 +93,14 @@ above-limit-requires c κs =
     (k .td-low, k .td-high, omega arith, omega arith, k .l-high, window (c .before .before), k .w-high)
 
 returns-5 : tie.Need-returns-5
-returns-5 c = simp (left (c .before .before .before .before), ← c .before .before .before .before .history-length .ensures, le-ltb _ _ (c .before .before .if4 .left), ← c .before .above-limit .ensures, c .if5 .taken)
+returns-5 c =
+    let at-history-length = c .before .before .before .before in
+    simp (left at-history-length, ← at-history-length .history-length .ensures, le-ltb _ _ (c .before .before .if4 .left), ← c .before .above-limit .ensures, c .if5 .taken)
 
 returns-6 : tie.Need-returns-6
-returns-6 c = simp (left (c .before .before .before .before), ← c .before .before .before .before .history-length .ensures, le-ltb _ _ (c .before .before .if4 .left), ← c .before .above-limit .ensures, c .if5 .left)
+returns-6 c =
+    let at-history-length = c .before .before .before .before in
+    simp (left at-history-length, ← at-history-length .history-length .ensures, le-ltb _ _ (c .before .before .if4 .left), ← c .before .above-limit .ensures, c .if5 .left)
 
 pub refusal-spec : {M : Type 1} → statement M
 refusal-spec =

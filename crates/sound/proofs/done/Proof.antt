@@ -10,7 +10,7 @@ use Rattle.rules.specs.Policy.{limits01}
 use Rattle.rules.specs.Tested.{Taken, Sound}
 use Rattle.rules.specs.Calls.{finished, Outcome, outcome, callRefusal, doneRefusal, reported, step}
 use Rattle.rules.proofs.Accept.{taken, done-taken, number-none}
-use Rattle.calls.proofs.Requests.{Within-widest, bounds}
+use Rattle.calls.proofs.Requests.{narrow-widest, bounds}
 use Rattle.calls.proofs.Flying.{some-flying}
 use Rattle.sound.proofs.Tells.{place-only, done-first, done-last, over-refused, over-taken, done-parts, done-sound, flying-ten}
 use borrow.Author.Needs.{needs}
@@ -20,9 +20,6 @@ use Rattle.sound.proofs.done.Tie as tie
 abbrev entry : tie.Start → State
 entry c = let a = c .args in state (a .h) (a .counters .now) (a .ticks .now) (a .rows .now) (a .threads .now)
 
-wide : Within-widest limits01
-wide = record { threshold = omega arith; history = omega arith }
-
 -- the rules' refusal, and what they perform
 abbrev refusal : tie.Start → Refusal
 refusal c = let a = c .args in doneRefusal limits01 (a .s) (a .seeds .now) (entry c) (a .tick) (a .bank) (a .thread)
@@ -30,20 +27,24 @@ refusal c = let a = c .args in doneRefusal limits01 (a .s) (a .seeds .now) (entr
 abbrev performs : tie.Start → Outcome
 performs c = let a = c .args in reported (a .s) (turned (a .s) (entry c) (a .tick)) (a .bank) (a .thread)
 
-place-is : (c : tie.After-place-refusal) → let a = c .before .before .before .before .before .before .args in c .place-refusal .result ≡ refusalNumber (callRefusal limits01 (a .s) (a .seeds .now) (entry (c .before .before .before .before .before .before)) (a .tick) (a .bank) (a .thread))
+place-is : (c : tie.After-place-refusal) → let start = c .before .before .before .before .before .before in let a = start .args in c .place-refusal .result ≡ refusalNumber (callRefusal limits01 (a .s) (a .seeds .now) (entry start) (a .tick) (a .bank) (a .thread))
 place-is c =
-    let a = c .before .before .before .before .before .before .args in
-    c .place-refusal .ensures ∙ ap refusalNumber (sym (place-only limits01 (a .s) (a .seeds .now) (entry (c .before .before .before .before .before .before)) (c .before .before .before .before .before .before .pre .0) (c .before .before .before .before .before .before .pre .1) (a .tick) (a .bank) (a .thread)))
+    let start = c .before .before .before .before .before .before in
+    let a = start .args in
+    c .place-refusal .ensures ∙ ap refusalNumber (sym (place-only limits01 (a .s) (a .seeds .now) (entry start) (start .pre .0) (start .pre .1) (a .tick) (a .bank) (a .thread)))
 
-ok : (c : tie.Else1) → let a = c .before .before .before .before .before .before .before .args in Taken limits01 (a .s) (a .seeds .now) (entry (c .before .before .before .before .before .before .before)) (a .tick) (a .bank) (a .thread)
-ok c = let a = c .before .before .before .before .before .before .before .args in taken limits01 (a .s) (a .seeds .now) (entry (c .before .before .before .before .before .before .before)) (a .tick) (a .bank) (a .thread) (number-none _ (sym (place-is (c .before)) ∙ c .if1 .left))
+ok : (c : tie.Else1) → let start = c .before .before .before .before .before .before .before in let a = start .args in Taken limits01 (a .s) (a .seeds .now) (entry start) (a .tick) (a .bank) (a .thread)
+ok c =
+    let start = c .before .before .before .before .before .before .before in
+    let a = start .args in taken limits01 (a .s) (a .seeds .now) (entry start) (a .tick) (a .bank) (a .thread) (number-none _ (sym (place-is (c .before)) ∙ c .if1 .left))
 
 -- the refusal of a done is the one by what is in flight
 flying-is : (c : tie.After-flying-refusal) → c .flying-refusal .result ≡ refusalNumber (refusal (c .before .before .before .before .before .before .before .before .before))
 flying-is c =
-    let a = c .before .before .before .before .before .before .before .before .before .args in
+    let start = c .before .before .before .before .before .before .before .before .before in
+    let a = start .args in
     c .flying-refusal .ensures
-    ∙ ap refusalNumber (sym (done-last limits01 (a .s) (a .seeds .now) (entry (c .before .before .before .before .before .before .before .before .before)) (a .tick) (a .bank) (a .thread) (sym (place-is (c .before .before .before)) ∙ c .before .before .if1 .left)))
+    ∙ ap refusalNumber (sym (done-last limits01 (a .s) (a .seeds .now) (entry start) (a .tick) (a .bank) (a .thread) (sym (place-is (c .before .before .before)) ∙ c .before .before .if1 .left)))
 
 place-refusal-requires : tie.Need-place-refusal-requires
 place-refusal-requires c κs = search needs
@@ -51,10 +52,11 @@ place-refusal-requires c κs = search needs
 returns : tie.Need-returns
 unfolding step
 returns c =
-    let a = c .before .before .before .before .before .before .before .args in
-    let r = done-first limits01 (a .s) (a .seeds .now) (entry (c .before .before .before .before .before .before .before)) (a .tick) (a .bank) (a .thread) (λ z. c .if1 .taken (place-is (c .before) ∙ z)) in
-    over-refused (a .s) (refusal (c .before .before .before .before .before .before .before)) (entry (c .before .before .before .before .before .before .before)) (performs (c .before .before .before .before .before .before .before)) (c .before .place-refusal .result)
-    (place-is (c .before) ∙ ap refusalNumber (sym r)) (c .if1 .taken) (c .before .before .before .before .before .before .before .pre .1)
+    let start = c .before .before .before .before .before .before .before in
+    let a = start .args in
+    let r = done-first limits01 (a .s) (a .seeds .now) (entry start) (a .tick) (a .bank) (a .thread) (λ z. c .if1 .taken (place-is (c .before) ∙ z)) in
+    over-refused (a .s) (refusal start) (entry start) (performs start) (c .before .place-refusal .result)
+    (place-is (c .before) ∙ ap refusalNumber (sym r)) (c .if1 .taken) (start .pre .1)
 
 flying-refusal-requires : tie.Need-flying-refusal-requires
 flying-refusal-requires c κs =
@@ -67,17 +69,19 @@ same-length c = search needs
 returns-2 : tie.Need-returns-2
 unfolding step
 returns-2 c =
-    let a = c .before .before .before .before .before .before .before .before .before .before .args in
-    over-refused (a .s) (refusal (c .before .before .before .before .before .before .before .before .before .before)) (entry (c .before .before .before .before .before .before .before .before .before .before)) (performs (c .before .before .before .before .before .before .before .before .before .before)) 10
+    let start = c .before .before .before .before .before .before .before .before .before .before in
+    let a = start .args in
+    over-refused (a .s) (refusal start) (entry start) (performs start) 10
     (sym (flying-ten (eqb (getD (a .threads .now) (threadCell (a .s) (a .bank) (a .thread) 2) 0) 0) (c .before .flying-refusal .result) (c .before .flying-refusal .ensures) (c .if2 .taken)) ∙ flying-is (c .before))
-    (omega arith) (c .before .before .before .before .before .before .before .before .before .before .pre .1)
+    (omega arith) (start .pre .1)
 
 done-requires : tie.Need-done-requires
 done-requires c κs =
-    let a = c .before .before .before .before .before .before .before .before .before .before .before .before .args in
+    let start = c .before .before .before .before .before .before .before .before .before .before .before .before in
+    let a = start .args in
     let k = ok (c .before .before .before .before .before) in
-    let r = done-taken limits01 (a .s) (a .seeds .now) (entry (c .before .before .before .before .before .before .before .before .before .before .before .before)) (a .tick) (a .bank) (a .thread) (number-none _ (sym (flying-is (c .before .before .before)) ∙ c .before .before .if2 .left)) in
-    (bounds wide (k .setting), k .long .counters, k .long .threads, k .bank-in, k .thread-in, some-flying _ (r .1), k .later)
+    let r = done-taken limits01 (a .s) (a .seeds .now) (entry start) (a .tick) (a .bank) (a .thread) (number-none _ (sym (flying-is (c .before .before .before)) ∙ c .before .before .if2 .left)) in
+    (bounds narrow-widest (k .setting), k .long .counters, k .long .threads, k .bank-in, k .thread-in, some-flying _ (r .1), k .later)
 
 same-length-2 : tie.Need-same-length-2
 same-length-2 c = search needs
@@ -88,13 +92,14 @@ same-length-3 c = search needs
 returns-3 : tie.Need-returns-3
 unfolding step
 returns-3 c =
-    let a = c .before .before .before .before .before .before .before .before .before .before .before .before .before .before .before .before .before .args in
+    let start = c .before .before .before .before .before .before .before .before .before .before .before .before .before .before .before .before .before in
+    let a = start .args in
     let q = c .before .before .before .before .done in
     let z = state (q .result) (q .last .1 .1 .0) (a .ticks .now) (a .rows .now) (q .last .1 .1 .1 .0) in
-    let after : outcome finished z ≡ performs (c .before .before .before .before .before .before .before .before .before .before .before .before .before .before .before .before .before) =
-    done-parts (a .s) (entry (c .before .before .before .before .before .before .before .before .before .before .before .before .before .before .before .before .before)) (a .tick) (a .bank) (a .thread) (q .result) (q .last .1 .1 .0) (q .last .1 .1 .1 .0) (q .ensures .0) (q .ensures .1) (q .ensures .2) in
-    over-taken (a .s) (refusal (c .before .before .before .before .before .before .before .before .before .before .before .before .before .before .before .before .before)) (entry (c .before .before .before .before .before .before .before .before .before .before .before .before .before .before .before .before .before)) (performs (c .before .before .before .before .before .before .before .before .before .before .before .before .before .before .before .before .before)) z (sym (flying-is (c .before .before .before .before .before .before .before .before)) ∙ c .before .before .before .before .before .before .before .if2 .left) after
-    (subst (λ o. Sound (a .s) (o .state)) (sym after) (done-sound limits01 (a .s) (a .seeds .now) (entry (c .before .before .before .before .before .before .before .before .before .before .before .before .before .before .before .before .before)) (a .tick) (a .bank) (a .thread) (ok (c .before .before .before .before .before .before .before .before .before .before))))
+    let after : outcome finished z ≡ performs start =
+    done-parts (a .s) (entry start) (a .tick) (a .bank) (a .thread) (q .result) (q .last .1 .1 .0) (q .last .1 .1 .1 .0) (q .ensures .0) (q .ensures .1) (q .ensures .2) in
+    over-taken (a .s) (refusal start) (entry start) (performs start) z (sym (flying-is (c .before .before .before .before .before .before .before .before)) ∙ c .before .before .before .before .before .before .before .if2 .left) after
+    (subst (λ o. Sound (a .s) (o .state)) (sym after) (done-sound limits01 (a .s) (a .seeds .now) (entry start) (a .tick) (a .bank) (a .thread) (ok (c .before .before .before .before .before .before .before .before .before .before))))
 
 pub done-spec : {M : Type 1} → statement M
 done-spec =

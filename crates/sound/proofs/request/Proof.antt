@@ -19,10 +19,11 @@ entry c = let a = c .args in state (a .h) (a .counters .now) (a .ticks .now) (a 
 abbrev performs : tie.Start → Outcome
 performs c = let a = c .args in requested narrow (a .s) (λ f. places (a .seeds .now) (a .row)) (turned (a .s) (entry c) (a .tick)) (a .bank) (a .thread) (a .row)
 
-code-is : (c : tie.After-place-refusal) → let a = c .before .before .before .before .before .before .args in c .place-refusal .result ≡ refusalNumber (callRefusal limits01 (a .s) (a .seeds .now) (entry (c .before .before .before .before .before .before)) (a .tick) (a .bank) (a .thread))
+code-is : (c : tie.After-place-refusal) → let start = c .before .before .before .before .before .before in let a = start .args in c .place-refusal .result ≡ refusalNumber (callRefusal limits01 (a .s) (a .seeds .now) (entry start) (a .tick) (a .bank) (a .thread))
 code-is c =
-    let a = c .before .before .before .before .before .before .args in
-    c .place-refusal .ensures ∙ ap refusalNumber (sym (place-only limits01 (a .s) (a .seeds .now) (entry (c .before .before .before .before .before .before)) (c .before .before .before .before .before .before .pre .0) (c .before .before .before .before .before .before .pre .1) (a .tick) (a .bank) (a .thread)))
+    let start = c .before .before .before .before .before .before in
+    let a = start .args in
+    c .place-refusal .ensures ∙ ap refusalNumber (sym (place-only limits01 (a .s) (a .seeds .now) (entry start) (start .pre .0) (start .pre .1) (a .tick) (a .bank) (a .thread)))
 
 place-refusal-requires : tie.Need-place-refusal-requires
 place-refusal-requires c κs = search needs
@@ -30,9 +31,10 @@ place-refusal-requires c κs = search needs
 returns : tie.Need-returns
 unfolding step
 returns c =
-    let a = c .before .before .before .before .before .before .before .args in
-    told-refused (a .s) (callRefusal limits01 (a .s) (a .seeds .now) (entry (c .before .before .before .before .before .before .before)) (a .tick) (a .bank) (a .thread)) (entry (c .before .before .before .before .before .before .before)) (performs (c .before .before .before .before .before .before .before)) (c .before .place-refusal .result) _
-    (code-is (c .before)) (c .if1 .taken) (c .before .before .before .before .before .before .before .pre .1)
+    let start = c .before .before .before .before .before .before .before in
+    let a = start .args in
+    told-refused (a .s) (callRefusal limits01 (a .s) (a .seeds .now) (entry start) (a .tick) (a .bank) (a .thread)) (entry start) (performs start) (c .before .place-refusal .result) _
+    (code-is (c .before)) (c .if1 .taken) (start .pre .1)
 
 request-requires : tie.Need-request-requires
 request-requires c κs = number-none _ (sym (code-is (c .before .before .before .before .before)) ∙ c .before .before .before .before .if1 .left)
@@ -52,9 +54,10 @@ same-length-4 c = search needs
 returns-2 : tie.Need-returns-2
 unfolding step
 returns-2 c =
-    let a = c .before .before .before .before .before .before .before .before .before .before .before .before .before .before .before .before .before .before .before .before .before .args in
+    let start = c .before .before .before .before .before .before .before .before .before .before .before .before .before .before .before .before .before .before .before .before .before in
+    let a = start .args in
     let q = c .before .before .before .before .before .before .before .before .before .request in
-    told-taken (a .s) (callRefusal limits01 (a .s) (a .seeds .now) (entry (c .before .before .before .before .before .before .before .before .before .before .before .before .before .before .before .before .before .before .before .before .before)) (a .tick) (a .bank) (a .thread)) (entry (c .before .before .before .before .before .before .before .before .before .before .before .before .before .before .before .before .before .before .before .before .before)) (performs (c .before .before .before .before .before .before .before .before .before .before .before .before .before .before .before .before .before .before .before .before .before)) (q .result .answer)
+    told-taken (a .s) (callRefusal limits01 (a .s) (a .seeds .now) (entry start) (a .tick) (a .bank) (a .thread)) (entry start) (performs start) (q .result .answer)
     (state (q .result .head) (q .last .1 .1 .1 .0) (q .last .1 .1 .1 .1 .0) (q .last .1 .1 .1 .1 .1 .0) (q .last .1 .1 .1 .1 .1 .1 .0))
     (sym (code-is (c .before .before .before .before .before .before .before .before .before .before .before .before .before .before .before)) ∙ c .before .before .before .before .before .before .before .before .before .before .before .before .before .before .if1 .left) (q .ensures .0) (q .ensures .1)
 

@@ -10,7 +10,7 @@ use Rattle.rules.specs.Calls.{setupRefusal}
 use Rattle.rules.proofs.Accept.{set-up, number-none}
 use Rattle.refusal.specs.Tests.{setupTest}
 use Rattle.refusal.proofs.Refusals.{setup-test}
-use Rattle.calls.proofs.Requests.{Within-widest, bounds}
+use Rattle.calls.proofs.Requests.{narrow-widest, bounds}
 use Rattle.sound.proofs.Tells.{begun-refused, begun-taken}
 use borrow.Author.Needs.{needs}
 use Rattle.sound.proofs.setup.Statement.{statement}
@@ -19,22 +19,22 @@ use Rattle.sound.proofs.setup.Tie as tie
 abbrev entry : tie.Start → State
 entry c = let a = c .args in state (a .h) (a .counters .now) (a .ticks .now) (a .rows .now) (a .threads .now)
 
-wide : Within-widest limits01
-wide = record { threshold = omega arith; history = omega arith }
-
 -- the code is the number of the rules' refusal
-code-is : (c : tie.After-setup-refusal) → c .setup-refusal .result ≡ refusalNumber (setupRefusal limits01 (c .before .before .before .before .before .before .before .args .s) (c .before .before .before .before .before .before .before .args .seeds .now) (entry (c .before .before .before .before .before .before .before)))
+code-is : (c : tie.After-setup-refusal) → let start = c .before .before .before .before .before .before .before in c .setup-refusal .result ≡ refusalNumber (setupRefusal limits01 (start .args .s) (start .args .seeds .now) (entry start))
 code-is c =
-    let a = c .before .before .before .before .before .before .before .args in
+    let start = c .before .before .before .before .before .before .before in
+    let a = start .args in
     c .setup-refusal .ensures
     ∙ ap (λ m. refusalNumber (setupTest m (a .s) (a .seeds .now) (length (a .counters .now)) (length (a .ticks .now)) (length (a .rows .now)) (length (a .threads .now)))) (c .before .narrow-limits .ensures)
-    ∙ ap refusalNumber (sym (setup-test limits01 (a .s) (a .seeds .now) (entry (c .before .before .before .before .before .before .before))))
+    ∙ ap refusalNumber (sym (setup-test limits01 (a .s) (a .seeds .now) (entry start)))
 
-taken : (c : tie.Else1) → setupRefusal limits01 (c .before .before .before .before .before .before .before .before .args .s) (c .before .before .before .before .before .before .before .before .args .seeds .now) (entry (c .before .before .before .before .before .before .before .before)) ≡ none
+taken : (c : tie.Else1) → let start = c .before .before .before .before .before .before .before .before in setupRefusal limits01 (start .args .s) (start .args .seeds .now) (entry start) ≡ none
 taken c = number-none _ (sym (code-is (c .before)) ∙ c .if1 .left)
 
-ok : (c : tie.Else1) → SetUp limits01 (c .before .before .before .before .before .before .before .before .args .s) (c .before .before .before .before .before .before .before .before .args .seeds .now) (entry (c .before .before .before .before .before .before .before .before))
-ok c = set-up limits01 (c .before .before .before .before .before .before .before .before .args .s) (c .before .before .before .before .before .before .before .before .args .seeds .now) (entry (c .before .before .before .before .before .before .before .before)) (taken c)
+ok : (c : tie.Else1) → let start = c .before .before .before .before .before .before .before .before in SetUp limits01 (start .args .s) (start .args .seeds .now) (entry start)
+ok c =
+    let start = c .before .before .before .before .before .before .before .before in
+    set-up limits01 (start .args .s) (start .args .seeds .now) (entry start) (taken c)
 
 narrow-limits-requires : tie.Need-narrow-limits-requires
 narrow-limits-requires c κs = search needs
@@ -43,12 +43,14 @@ setup-refusal-requires : tie.Need-setup-refusal-requires
 setup-refusal-requires c κs = rw (c .narrow-limits .ensures) (omega arith)
 
 returns : tie.Need-returns
-returns c = begun-refused (c .before .before .before .before .before .before .before .before .args .s) (c .before .before .before .before .before .before .before .before .args .seeds .now) (entry (c .before .before .before .before .before .before .before .before)) (c .before .setup-refusal .result) (code-is (c .before)) (c .if1 .taken)
+returns c =
+    let start = c .before .before .before .before .before .before .before .before in
+    begun-refused (start .args .s) (start .args .seeds .now) (entry start) (c .before .setup-refusal .result) (code-is (c .before)) (c .if1 .taken)
 
 fresh-requires : tie.Need-fresh-requires
 fresh-requires c κs =
     let k = ok (c .before .before .before .before) in
-    (bounds wide (k .setting), record { counters = k .long .counters; ticks = k .long .ticks; rows = k .long .rows; threads = k .long .threads })
+    (bounds narrow-widest (k .setting), record { counters = k .long .counters; ticks = k .long .ticks; rows = k .long .rows; threads = k .long .threads })
 
 same-length : tie.Need-same-length
 same-length c = search needs
@@ -65,8 +67,10 @@ same-length-4 c = search needs
 returns-2 : tie.Need-returns-2
 unfolding fresh
 returns-2 c =
-    let q = c .before .before .before .before .before .before .before .before .fresh .last in
-    begun-taken (c .before .before .before .before .before .before .before .before .before .before .before .before .before .before .before .before .before .before .before .before .before .args .s) (c .before .before .before .before .before .before .before .before .before .before .before .before .before .before .before .before .before .before .before .before .before .args .seeds .now) (entry (c .before .before .before .before .before .before .before .before .before .before .before .before .before .before .before .before .before .before .before .before .before)) (state (c .before .before .before .before .before .before .before .before .fresh .result) (q .1 .0) (q .1 .1 .0) (q .1 .1 .1 .0) (q .1 .1 .1 .1 .0)) (taken (c .before .before .before .before .before .before .before .before .before .before .before .before .before)) (c .before .before .before .before .before .before .before .before .fresh .ensures)
+    let start = c .before .before .before .before .before .before .before .before .before .before .before .before .before .before .before .before .before .before .before .before .before in
+    let at-fresh = c .before .before .before .before .before .before .before .before in
+    let q = at-fresh .fresh .last in
+    begun-taken (start .args .s) (start .args .seeds .now) (entry start) (state (at-fresh .fresh .result) (q .1 .0) (q .1 .1 .0) (q .1 .1 .1 .0) (q .1 .1 .1 .1 .0)) (taken (c .before .before .before .before .before .before .before .before .before .before .before .before .before)) (at-fresh .fresh .ensures)
 
 pub setup-spec : {M : Type 1} → statement M
 setup-spec =

@@ -35,10 +35,11 @@ same-length-3 c = search needs
 
 returns : tie.Need-returns
 returns c =
+    let at-record = c .before .before .before .before .before .before .before .before .before in
     let a = c .before .before .before .before .before .before .before .before .before .before .before .before .before .before .before .before .before .args in (
       c .activated .ensures ∙ ap (λ x. activatedHead x (a .h) (a .bank)) (c .before .before .before .before .before .before .before .before .before .before .before .before .before .history-length .ensures),
-      c .before .before .before .before .before .before .before .before .before .«record» .ensures .0,
-      c .before .before .before .before .before .before .before .before .before .«record» .ensures .1 ∙ ap (set (a .rows .now) (a .h .next)) (c .before .before .before .before .before .before .before .before .before .before .row-word .ensures),
+      at-record .«record» .ensures .0,
+      at-record .«record» .ensures .1 ∙ ap (set (a .rows .now) (a .h .next)) (c .before .before .before .before .before .before .before .before .before .before .row-word .ensures),
       c .before .before .before .activate .ensures,
     )
 

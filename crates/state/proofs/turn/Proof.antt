@@ -11,16 +11,19 @@ use Rattle.state.proofs.turn.Statement.{statement}
 use Rattle.state.proofs.turn.Tie as tie
 
 -- the epoch before is small
-small : (c : tie.After-epoch-from) → epoch (c .before .before .before .before .args .s) (c .before .before .before .before .args .h .last) < 2 ^ 63
-small c = let a = c .before .before .before .before .args in epoch-small (a .h .last) (a .s .w / 2) (c .before .before .before .before .pre .0 .epoch) (omega arith)
+small : (c : tie.After-epoch-from) → let start = c .before .before .before .before in epoch (start .args .s) (start .args .h .last) < 2 ^ 63
+small c =
+    let start = c .before .before .before .before in
+    let a = start .args in epoch-small (a .h .last) (a .s .w / 2) (start .pre .0 .epoch) (omega arith)
 
 div-from : tie.Need-div-from
 div-from c = search needs
 
 epoch-from-requires : tie.Need-epoch-from-requires
 epoch-from-requires c κs =
-    let a = c .before .before .before .args in
-    (omega (arith, c .before .before .before .pre .0 .epoch), omega (arith, div-mul-le-self (a .h .last) (a .s .w / 2), c .before .before .before .pre .2))
+    let start = c .before .before .before in
+    let a = start .args in
+    (omega (arith, start .pre .0 .epoch), omega (arith, div-mul-le-self (a .h .last) (a .s .w / 2), start .pre .2))
 
 mul-turn : tie.Need-mul-turn
 mul-turn c = search needs
@@ -39,13 +42,14 @@ same-length c = search needs
 
 returns : tie.Need-returns
 returns c =
+    let at-epoch-from = c .before .before .before .before .before .before in
     let a = c .before .before .before .before .before .before .before .before .before .before .args in
-    let e = c .before .before .before .before .before .before .epoch-from .ensures in (
+    let e = at-epoch-from .epoch-from .ensures in (
       c .moved .ensures,
       c .before .before .before .turn .ensures ∙ ap (λ x. turnedThreads (threadsUsed (a .s)) (epoch (a .s) (a .h .last)) x (a .threads .now)) e,
       refl,
       e,
-      small (c .before .before .before .before .before .before),
+      small at-epoch-from,
     )
 
 pub turn-spec : {M : Type 1} → statement M

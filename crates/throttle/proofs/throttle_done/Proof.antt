@@ -14,7 +14,7 @@ use Rattle.rules.specs.Calls.{doneRefusal, reported, step}
 use Rattle.rules.proofs.Accept.{taken, done-taken, number-none}
 use Rattle.refusal.specs.Tests.{doneTest}
 use Rattle.refusal.proofs.Refusals.{done-test}
-use Rattle.calls.proofs.Requests.{Within-widest, bounds}
+use Rattle.calls.proofs.Requests.{narrow-widest, bounds}
 use Rattle.calls.proofs.Flying.{some-flying}
 use Rattle.interface.specs.Left.{found}
 use Rattle.throttle.proofs.Settled.{left-refused, left-done}
@@ -29,19 +29,19 @@ entry c = let a = c .args in found (a .head .now) (a .counters .now) (a .ticks .
 abbrev s : tie.Start → Setting
 s c = settingOf (c .args .setting .now)
 
-wide : Within-widest limits01
-wide = record { threshold = omega arith; history = omega arith }
-
 -- the code is the number of the rules' refusal
-code-is : (c : tie.After-done-refusal) → let a = c .before .before .before .before .before .before .before .before .before .before .before .before .args in c .done-refusal .result ≡ refusalNumber (doneRefusal limits01 (s (c .before .before .before .before .before .before .before .before .before .before .before .before)) (a .seeds .now) (entry (c .before .before .before .before .before .before .before .before .before .before .before .before)) (a .tick) (a .bank) (a .thread))
+code-is : (c : tie.After-done-refusal) → let start = c .before .before .before .before .before .before .before .before .before .before .before .before in let a = start .args in c .done-refusal .result ≡ refusalNumber (doneRefusal limits01 (s start) (a .seeds .now) (entry start) (a .tick) (a .bank) (a .thread))
 code-is c =
-    let a = c .before .before .before .before .before .before .before .before .before .before .before .before .args in
+    let start = c .before .before .before .before .before .before .before .before .before .before .before .before in
+    let at-load = c .before .before .before .before .before .before in
+    let at-load-head = c .before .before .before .before in
+    let a = start .args in
     c .done-refusal .ensures
-    ∙ ap (λ m. refusalNumber (doneTest m (c .before .before .before .before .before .before .load .result) (a .seeds .now) (c .before .before .before .before .load-head .result) (length (a .counters .now)) (a .ticks .now) (length (a .rows .now)) (a .threads .now) (a .tick) (a .bank) (a .thread))) (c .before .before .before .narrow-limits .ensures)
-    ∙ ap₂ (λ x h. refusalNumber (doneTest limits01 x (a .seeds .now) h (length (a .counters .now)) (a .ticks .now) (length (a .rows .now)) (a .threads .now) (a .tick) (a .bank) (a .thread))) (c .before .before .before .before .before .before .load .ensures) (c .before .before .before .before .load-head .ensures)
-    ∙ ap refusalNumber (sym (done-test limits01 (s (c .before .before .before .before .before .before .before .before .before .before .before .before)) (a .seeds .now) (entry (c .before .before .before .before .before .before .before .before .before .before .before .before)) (a .tick) (a .bank) (a .thread)))
+    ∙ ap (λ m. refusalNumber (doneTest m (at-load .load .result) (a .seeds .now) (at-load-head .load-head .result) (length (a .counters .now)) (a .ticks .now) (length (a .rows .now)) (a .threads .now) (a .tick) (a .bank) (a .thread))) (c .before .before .before .narrow-limits .ensures)
+    ∙ ap₂ (λ x h. refusalNumber (doneTest limits01 x (a .seeds .now) h (length (a .counters .now)) (a .ticks .now) (length (a .rows .now)) (a .threads .now) (a .tick) (a .bank) (a .thread))) (at-load .load .ensures) (at-load-head .load-head .ensures)
+    ∙ ap refusalNumber (sym (done-test limits01 (s start) (a .seeds .now) (entry start) (a .tick) (a .bank) (a .thread)))
 
-free : (c : tie.Else1) → let a = c .before .before .before .before .before .before .before .before .before .before .before .before .before .args in doneRefusal limits01 (s (c .before .before .before .before .before .before .before .before .before .before .before .before .before)) (a .seeds .now) (entry (c .before .before .before .before .before .before .before .before .before .before .before .before .before)) (a .tick) (a .bank) (a .thread) ≡ none
+free : (c : tie.Else1) → let start = c .before .before .before .before .before .before .before .before .before .before .before .before .before in let a = start .args in doneRefusal limits01 (s start) (a .seeds .now) (entry start) (a .tick) (a .bank) (a .thread) ≡ none
 free c = number-none _ (sym (code-is (c .before)) ∙ c .if1 .left)
 
 load-requires : tie.Need-load-requires
@@ -65,18 +65,20 @@ same-length-2 c = search needs
 returns : tie.Need-returns
 unfolding step
 returns c =
-    let a = c .before .before .before .before .before .before .before .before .before .before .before .before .before .args in
-    left-refused (doneRefusal limits01 (s (c .before .before .before .before .before .before .before .before .before .before .before .before .before)) (a .seeds .now) (entry (c .before .before .before .before .before .before .before .before .before .before .before .before .before)) (a .tick) (a .bank) (a .thread))
-    (reported (s (c .before .before .before .before .before .before .before .before .before .before .before .before .before)) (turned (s (c .before .before .before .before .before .before .before .before .before .before .before .before .before)) (entry (c .before .before .before .before .before .before .before .before .before .before .before .before .before)) (a .tick)) (a .bank) (a .thread)) (c .before .done-refusal .result)
+    let start = c .before .before .before .before .before .before .before .before .before .before .before .before .before in
+    let a = start .args in
+    left-refused (doneRefusal limits01 (s start) (a .seeds .now) (entry start) (a .tick) (a .bank) (a .thread))
+    (reported (s start) (turned (s start) (entry start) (a .tick)) (a .bank) (a .thread)) (c .before .done-refusal .result)
     [] (a .head .now) (a .counters .now) (a .ticks .now) (a .rows .now) (a .threads .now) (code-is (c .before)) (c .if1 .taken)
 
 done-requires : tie.Need-done-requires
 done-requires c κs =
-    let a = c .before .before .before .before .before .before .before .before .before .before .before .before .before .before .before .args in
-    let d = done-taken limits01 (s (c .before .before .before .before .before .before .before .before .before .before .before .before .before .before .before)) (a .seeds .now) (entry (c .before .before .before .before .before .before .before .before .before .before .before .before .before .before .before)) (a .tick) (a .bank) (a .thread) (free (c .before .before)) in
-    let k : Taken limits01 (s (c .before .before .before .before .before .before .before .before .before .before .before .before .before .before .before)) (a .seeds .now) (entry (c .before .before .before .before .before .before .before .before .before .before .before .before .before .before .before)) (a .tick) (a .bank) (a .thread) =
-    taken limits01 (s (c .before .before .before .before .before .before .before .before .before .before .before .before .before .before .before)) (a .seeds .now) (entry (c .before .before .before .before .before .before .before .before .before .before .before .before .before .before .before)) (a .tick) (a .bank) (a .thread) (d .0) in
-    rw (c .before .before .before .before .before .before .before .before .before .load .ensures, c .before .before .before .before .before .before .before .load-head .ensures) (bounds wide (k .setting), k .long .counters, k .long .threads, k .bank-in, k .thread-in, some-flying _ (d .1), k .later)
+    let start = c .before .before .before .before .before .before .before .before .before .before .before .before .before .before .before in
+    let a = start .args in
+    let d = done-taken limits01 (s start) (a .seeds .now) (entry start) (a .tick) (a .bank) (a .thread) (free (c .before .before)) in
+    let k : Taken limits01 (s start) (a .seeds .now) (entry start) (a .tick) (a .bank) (a .thread) =
+    taken limits01 (s start) (a .seeds .now) (entry start) (a .tick) (a .bank) (a .thread) (d .0) in
+    rw (c .before .before .before .before .before .before .before .before .before .load .ensures, c .before .before .before .before .before .before .before .load-head .ensures) (bounds narrow-widest (k .setting), k .long .counters, k .long .threads, k .bank-in, k .thread-in, some-flying _ (d .1), k .later)
 
 store-head-requires : tie.Need-store-head-requires
 store-head-requires c κs = search needs
@@ -92,11 +94,12 @@ same-length-5 c = search needs
 
 returns-2 : tie.Need-returns-2
 returns-2 c =
-    let a = c .before .before .before .before .before .before .before .before .before .before .before .before .before .before .before .before .before .before .before .before .before .before .args in
+    let start = c .before .before .before .before .before .before .before .before .before .before .before .before .before .before .before .before .before .before .before .before .before .before in
+    let a = start .args in
     let q = c .before .before .before .before .before .before .done in
     let e = rw (c .before .before .before .before .before .before .before .before .before .before .before .before .before .before .before .before .load .ensures, c .before .before .before .before .before .before .before .before .before .before .before .before .before .before .load-head .ensures) at (q .ensures) in
     rw (c .store-head .ensures)
-    (left-done (s (c .before .before .before .before .before .before .before .before .before .before .before .before .before .before .before .before .before .before .before .before .before .before)) (a .seeds .now) (a .head .now) (a .counters .now) (a .ticks .now) (a .rows .now) (a .threads .now)
+    (left-done (s start) (a .seeds .now) (a .head .now) (a .counters .now) (a .ticks .now) (a .rows .now) (a .threads .now)
     (a .tick) (a .bank) (a .thread) (ap refusalNumber (free (c .before .before .before .before .before .before .before .before .before))) (q .result) (q .last .1 .1 .0) (q .last .1 .1 .1 .0) (e .0) (e .1) (e .2))
 
 pub throttle-done-spec : {M : Type 1} → statement M

@@ -13,7 +13,7 @@ use Rattle.rules.specs.Calls.{callRefusal, indexShown, step}
 use Rattle.rules.proofs.Accept.{taken, number-none}
 use Rattle.refusal.specs.Tests.{callTest}
 use Rattle.refusal.proofs.Refusals.{call-test}
-use Rattle.calls.proofs.Requests.{Within-widest, bounds}
+use Rattle.calls.proofs.Requests.{narrow-widest, bounds}
 use Rattle.interface.specs.Left.{found}
 use Rattle.throttle.proofs.Settled.{left-refused, left-index}
 use borrow.Author.Needs.{needs}
@@ -27,19 +27,19 @@ entry c = let a = c .args in found (a .head .now) (a .counters .now) (a .ticks .
 abbrev s : tie.Start → Setting
 s c = settingOf (c .args .setting .now)
 
-wide : Within-widest limits01
-wide = record { threshold = omega arith; history = omega arith }
-
 -- the code is the number of the rules' refusal
-code-is : (c : tie.After-call-refusal) → let a = c .before .before .before .before .before .before .before .before .before .before .before .args in c .call-refusal .result ≡ refusalNumber (callRefusal limits01 (s (c .before .before .before .before .before .before .before .before .before .before .before)) (a .seeds .now) (entry (c .before .before .before .before .before .before .before .before .before .before .before)) (a .tick) (a .bank) (a .thread))
+code-is : (c : tie.After-call-refusal) → let start = c .before .before .before .before .before .before .before .before .before .before .before in let a = start .args in c .call-refusal .result ≡ refusalNumber (callRefusal limits01 (s start) (a .seeds .now) (entry start) (a .tick) (a .bank) (a .thread))
 code-is c =
-    let a = c .before .before .before .before .before .before .before .before .before .before .before .args in
+    let start = c .before .before .before .before .before .before .before .before .before .before .before in
+    let at-load = c .before .before .before .before .before in
+    let at-load-head = c .before .before .before in
+    let a = start .args in
     c .call-refusal .ensures
-    ∙ ap (λ m. refusalNumber (callTest m (c .before .before .before .before .before .load .result) (a .seeds .now) (c .before .before .before .load-head .result) (length (a .counters .now)) (a .ticks .now) (length (a .rows .now)) (length (a .threads .now)) (a .tick) (a .bank) (a .thread))) (c .before .before .narrow-limits .ensures)
-    ∙ ap₂ (λ x h. refusalNumber (callTest limits01 x (a .seeds .now) h (length (a .counters .now)) (a .ticks .now) (length (a .rows .now)) (length (a .threads .now)) (a .tick) (a .bank) (a .thread))) (c .before .before .before .before .before .load .ensures) (c .before .before .before .load-head .ensures)
-    ∙ ap refusalNumber (sym (call-test limits01 (s (c .before .before .before .before .before .before .before .before .before .before .before)) (a .seeds .now) (entry (c .before .before .before .before .before .before .before .before .before .before .before)) (a .tick) (a .bank) (a .thread)))
+    ∙ ap (λ m. refusalNumber (callTest m (at-load .load .result) (a .seeds .now) (at-load-head .load-head .result) (length (a .counters .now)) (a .ticks .now) (length (a .rows .now)) (length (a .threads .now)) (a .tick) (a .bank) (a .thread))) (c .before .before .narrow-limits .ensures)
+    ∙ ap₂ (λ x h. refusalNumber (callTest limits01 x (a .seeds .now) h (length (a .counters .now)) (a .ticks .now) (length (a .rows .now)) (length (a .threads .now)) (a .tick) (a .bank) (a .thread))) (at-load .load .ensures) (at-load-head .load-head .ensures)
+    ∙ ap refusalNumber (sym (call-test limits01 (s start) (a .seeds .now) (entry start) (a .tick) (a .bank) (a .thread)))
 
-free : (c : tie.Else1) → let a = c .before .before .before .before .before .before .before .before .before .before .before .before .args in callRefusal limits01 (s (c .before .before .before .before .before .before .before .before .before .before .before .before)) (a .seeds .now) (entry (c .before .before .before .before .before .before .before .before .before .before .before .before)) (a .tick) (a .bank) (a .thread) ≡ none
+free : (c : tie.Else1) → let start = c .before .before .before .before .before .before .before .before .before .before .before .before in let a = start .args in callRefusal limits01 (s start) (a .seeds .now) (entry start) (a .tick) (a .bank) (a .thread) ≡ none
 free c = number-none _ (sym (code-is (c .before)) ∙ c .if1 .left)
 
 load-requires : tie.Need-load-requires
@@ -60,17 +60,19 @@ same-length c = search needs
 returns : tie.Need-returns
 unfolding step
 returns c =
-    let a = c .before .before .before .before .before .before .before .before .before .before .before .before .args in
-    left-refused (callRefusal limits01 (s (c .before .before .before .before .before .before .before .before .before .before .before .before)) (a .seeds .now) (entry (c .before .before .before .before .before .before .before .before .before .before .before .before)) (a .tick) (a .bank) (a .thread))
-    (indexShown narrow (s (c .before .before .before .before .before .before .before .before .before .before .before .before)) (turned (s (c .before .before .before .before .before .before .before .before .before .before .before .before)) (entry (c .before .before .before .before .before .before .before .before .before .before .before .before)) (a .tick)) (a .bank) (a .thread)) (c .before .call-refusal .result)
+    let start = c .before .before .before .before .before .before .before .before .before .before .before .before in
+    let a = start .args in
+    left-refused (callRefusal limits01 (s start) (a .seeds .now) (entry start) (a .tick) (a .bank) (a .thread))
+    (indexShown narrow (s start) (turned (s start) (entry start) (a .tick)) (a .bank) (a .thread)) (c .before .call-refusal .result)
     (a .out .now) (a .head .now) (a .counters .now) (a .ticks .now) (a .rows .now) (a .threads .now) (code-is (c .before)) (c .if1 .taken)
 
 index-requires : tie.Need-index-requires
 index-requires c κs =
-    let a = c .before .before .before .before .before .before .before .before .before .before .before .before .before .before .args in
-    let k : Taken limits01 (s (c .before .before .before .before .before .before .before .before .before .before .before .before .before .before)) (a .seeds .now) (entry (c .before .before .before .before .before .before .before .before .before .before .before .before .before .before)) (a .tick) (a .bank) (a .thread) =
-    taken limits01 (s (c .before .before .before .before .before .before .before .before .before .before .before .before .before .before)) (a .seeds .now) (entry (c .before .before .before .before .before .before .before .before .before .before .before .before .before .before)) (a .tick) (a .bank) (a .thread) (free (c .before .before)) in
-    rw (c .before .before .before .before .before .before .before .before .load .ensures, c .before .before .before .before .before .before .load-head .ensures) (bounds wide (k .setting), k .long .counters, k .long .threads, k .bank-in, k .thread-in, k .later)
+    let start = c .before .before .before .before .before .before .before .before .before .before .before .before .before .before in
+    let a = start .args in
+    let k : Taken limits01 (s start) (a .seeds .now) (entry start) (a .tick) (a .bank) (a .thread) =
+    taken limits01 (s start) (a .seeds .now) (entry start) (a .tick) (a .bank) (a .thread) (free (c .before .before)) in
+    rw (c .before .before .before .before .before .before .before .before .load .ensures, c .before .before .before .before .before .before .load-head .ensures) (bounds narrow-widest (k .setting), k .long .counters, k .long .threads, k .bank-in, k .thread-in, k .later)
 
 store-head-requires : tie.Need-store-head-requires
 store-head-requires c κs = search needs
@@ -86,11 +88,12 @@ same-length-4 c = search needs
 
 returns-2 : tie.Need-returns-2
 returns-2 c =
-    let a = c .before .before .before .before .before .before .before .before .before .before .before .before .before .before .before .before .before .before .before .before .before .before .before .args in
+    let start = c .before .before .before .before .before .before .before .before .before .before .before .before .before .before .before .before .before .before .before .before .before .before .before in
+    let a = start .args in
     let q = c .before .before .before .before .before .before .before .before .index in
     let e = rw (c .before .before .before .before .before .before .before .before .before .before .before .before .before .before .before .before .before .load .ensures, c .before .before .before .before .before .before .before .before .before .before .before .before .before .before .before .load-head .ensures) at (q .ensures) in
     rw (c .before .store-head .ensures)
-    (left-index (s (c .before .before .before .before .before .before .before .before .before .before .before .before .before .before .before .before .before .before .before .before .before .before .before)) (a .seeds .now) (a .head .now) (a .counters .now) (a .ticks .now) (a .rows .now) (a .threads .now)
+    (left-index (s start) (a .seeds .now) (a .head .now) (a .counters .now) (a .ticks .now) (a .rows .now) (a .threads .now)
     (a .tick) (a .bank) (a .thread) (a .out .now) (ap refusalNumber (free (c .before .before .before .before .before .before .before .before .before .before .before))) (q .result .head) (q .last .1 .1 .0) (q .last .1 .1 .1 .0)
     (q .result .c) (q .result .scale) (q .result .quota) (e .0) (e .1) (e .2) (e .3) (e .4) (e .5))
 

@@ -27,15 +27,18 @@ abbrev s : tie.Start → Setting
 s c = settingOf (c .args .setting .now)
 
 -- the code is the number of the rules' refusal
-code-is : (c : tie.After-call-refusal) → let a = c .before .before .before .before .before .before .before .before .before .before .before .args in c .call-refusal .result ≡ refusalNumber (callRefusal limits01 (s (c .before .before .before .before .before .before .before .before .before .before .before)) (a .seeds .now) (entry (c .before .before .before .before .before .before .before .before .before .before .before)) (a .tick) (a .bank) (a .thread))
+code-is : (c : tie.After-call-refusal) → let start = c .before .before .before .before .before .before .before .before .before .before .before in let a = start .args in c .call-refusal .result ≡ refusalNumber (callRefusal limits01 (s start) (a .seeds .now) (entry start) (a .tick) (a .bank) (a .thread))
 code-is c =
-    let a = c .before .before .before .before .before .before .before .before .before .before .before .args in
+    let start = c .before .before .before .before .before .before .before .before .before .before .before in
+    let at-load = c .before .before .before .before .before in
+    let at-load-head = c .before .before .before in
+    let a = start .args in
     c .call-refusal .ensures
-    ∙ ap (λ m. refusalNumber (callTest m (c .before .before .before .before .before .load .result) (a .seeds .now) (c .before .before .before .load-head .result) (length (a .counters .now)) (a .ticks .now) (length (a .rows .now)) (length (a .threads .now)) (a .tick) (a .bank) (a .thread))) (c .before .before .narrow-limits .ensures)
-    ∙ ap₂ (λ x h. refusalNumber (callTest limits01 x (a .seeds .now) h (length (a .counters .now)) (a .ticks .now) (length (a .rows .now)) (length (a .threads .now)) (a .tick) (a .bank) (a .thread))) (c .before .before .before .before .before .load .ensures) (c .before .before .before .load-head .ensures)
-    ∙ ap refusalNumber (sym (call-test limits01 (s (c .before .before .before .before .before .before .before .before .before .before .before)) (a .seeds .now) (entry (c .before .before .before .before .before .before .before .before .before .before .before)) (a .tick) (a .bank) (a .thread)))
+    ∙ ap (λ m. refusalNumber (callTest m (at-load .load .result) (a .seeds .now) (at-load-head .load-head .result) (length (a .counters .now)) (a .ticks .now) (length (a .rows .now)) (length (a .threads .now)) (a .tick) (a .bank) (a .thread))) (c .before .before .narrow-limits .ensures)
+    ∙ ap₂ (λ x h. refusalNumber (callTest limits01 x (a .seeds .now) h (length (a .counters .now)) (a .ticks .now) (length (a .rows .now)) (length (a .threads .now)) (a .tick) (a .bank) (a .thread))) (at-load .load .ensures) (at-load-head .load-head .ensures)
+    ∙ ap refusalNumber (sym (call-test limits01 (s start) (a .seeds .now) (entry start) (a .tick) (a .bank) (a .thread)))
 
-taken : (c : tie.Else1) → let a = c .before .before .before .before .before .before .before .before .before .before .before .before .args in callRefusal limits01 (s (c .before .before .before .before .before .before .before .before .before .before .before .before)) (a .seeds .now) (entry (c .before .before .before .before .before .before .before .before .before .before .before .before)) (a .tick) (a .bank) (a .thread) ≡ none
+taken : (c : tie.Else1) → let start = c .before .before .before .before .before .before .before .before .before .before .before .before in let a = start .args in callRefusal limits01 (s start) (a .seeds .now) (entry start) (a .tick) (a .bank) (a .thread) ≡ none
 taken c = number-none _ (sym (code-is (c .before)) ∙ c .if1 .left)
 
 load-requires : tie.Need-load-requires
@@ -56,9 +59,10 @@ same-length c = search needs
 returns : tie.Need-returns
 unfolding step
 returns c =
-    let a = c .before .before .before .before .before .before .before .before .before .before .before .before .args in
-    left-refused (callRefusal limits01 (s (c .before .before .before .before .before .before .before .before .before .before .before .before)) (a .seeds .now) (entry (c .before .before .before .before .before .before .before .before .before .before .before .before)) (a .tick) (a .bank) (a .thread))
-    (requested narrow (s (c .before .before .before .before .before .before .before .before .before .before .before .before)) (λ f. places (a .seeds .now) (a .row)) (turned (s (c .before .before .before .before .before .before .before .before .before .before .before .before)) (entry (c .before .before .before .before .before .before .before .before .before .before .before .before)) (a .tick)) (a .bank) (a .thread) (a .row)) (c .before .call-refusal .result)
+    let start = c .before .before .before .before .before .before .before .before .before .before .before .before in
+    let a = start .args in
+    left-refused (callRefusal limits01 (s start) (a .seeds .now) (entry start) (a .tick) (a .bank) (a .thread))
+    (requested narrow (s start) (λ f. places (a .seeds .now) (a .row)) (turned (s start) (entry start) (a .tick)) (a .bank) (a .thread) (a .row)) (c .before .call-refusal .result)
     (a .out .now) (a .head .now) (a .counters .now) (a .ticks .now) (a .rows .now) (a .threads .now) (code-is (c .before)) (c .if1 .taken)
 
 request-requires : tie.Need-request-requires
@@ -87,11 +91,12 @@ same-length-5 c = search needs
 
 returns-2 : tie.Need-returns-2
 returns-2 c =
-    let a = c .before .before .before .before .before .before .before .before .before .before .before .before .before .before .before .before .before .before .before .before .before .before .before .before .before .before .before .before .before .before .before .args in
+    let start = c .before .before .before .before .before .before .before .before .before .before .before .before .before .before .before .before .before .before .before .before .before .before .before .before .before .before .before .before .before .before .before in
+    let a = start .args in
     let q = c .before .before .before .before .before .before .before .before .before .before .before .before .before .before .request in
     let z = state (q .result .head) (q .last .1 .1 .1 .0) (q .last .1 .1 .1 .1 .0) (q .last .1 .1 .1 .1 .1 .0) (q .last .1 .1 .1 .1 .1 .1 .0) in
     rw (c .before .before .before .store-head .ensures, c .before .before .answer-number .ensures, c .before .answer-wait .ensures)
-    (left-request (s (c .before .before .before .before .before .before .before .before .before .before .before .before .before .before .before .before .before .before .before .before .before .before .before .before .before .before .before .before .before .before .before)) (a .seeds .now) (a .head .now) (a .counters .now) (a .ticks .now) (a .rows .now) (a .threads .now)
+    (left-request (s start) (a .seeds .now) (a .head .now) (a .counters .now) (a .ticks .now) (a .rows .now) (a .threads .now)
     (a .tick) (a .bank) (a .thread) (a .row) (a .out .now) (ap refusalNumber (taken (c .before .before .before .before .before .before .before .before .before .before .before .before .before .before .before .before .before .before .before))) (q .result .answer) z (rw (c .before .before .before .before .before .before .before .before .before .before .before .before .before .before .before .before .before .before .before .before .before .before .before .before .before .load .ensures, c .before .before .before .before .before .before .before .before .before .before .before .before .before .before .before .before .before .before .before .before .before .before .before .load-head .ensures) at (q .ensures .0)))
 
 pub throttle-request-spec : {M : Type 1} → statement M

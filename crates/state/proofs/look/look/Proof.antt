@@ -42,15 +42,17 @@ delay-requires c κs =
 
 add-end : tie.Need-add-end
 add-end c =
-    let a = c .before .before .before .before .before .before .before .before .before .before .before .args in
-    let e : a .e ≡ a .h .last / (a .s .w / 2) = c .before .before .before .before .before .before .before .before .before .before .before .pre .1 in
-    omega (arith, div-le-self (a .h .last) (a .s .w / 2), c .before .before .before .before .before .before .before .before .before .before .before .pre .0 .early)
+    let start = c .before .before .before .before .before .before .before .before .before .before .before in
+    let a = start .args in
+    let e : a .e ≡ a .h .last / (a .s .w / 2) = start .pre .1 in
+    omega (arith, div-le-self (a .h .last) (a .s .w / 2), start .pre .0 .early)
 
 mul-end : tie.Need-mul-end
 mul-end c =
-    let a = c .before .before .before .before .before .before .before .before .before .before .before .args in
-    let e : a .e ≡ a .h .last / (a .s .w / 2) = c .before .before .before .before .before .before .before .before .before .before .before .pre .1 in
-    rw e (omega (arith, end-small (a .h .last) (a .s .w / 2) (omega (arith, c .before .before .before .before .before .before .before .before .before .before .before .pre .0 .bounds .ranges .w-high)) (c .before .before .before .before .before .before .before .before .before .before .before .pre .0 .early)))
+    let start = c .before .before .before .before .before .before .before .before .before .before .before in
+    let a = start .args in
+    let e : a .e ≡ a .h .last / (a .s .w / 2) = start .pre .1 in
+    rw e (omega (arith, end-small (a .h .last) (a .s .w / 2) (omega (arith, start .pre .0 .bounds .ranges .w-high)) (start .pre .0 .early)))
 
 mul-t24 : tie.Need-mul-t24
 mul-t24 c = search needs
@@ -63,9 +65,11 @@ array-read-t33 c = search needs
 
 returns : tie.Need-returns
 returns c =
-    let a = c .before .before .before .before .before .before .before .before .before .before .before .args in
-    view-parts (a .s) (a .active) (a .other) (a .h) (a .ticks .now) (a .rows .now) (a .threads .now) (a .bank) (a .thread) (a .row) (a .e % 2) (c .before .before .before .before .before .before .cell .result) _
-    (ap (λ x. x % 2) (c .before .before .before .before .before .before .before .before .before .before .before .pre .1)) (c .before .before .before .before .before .before .cell .ensures .0) refl (c .before .before .before .quota .ensures .0) refl refl refl refl (c .delay .ensures) (ap (λ x. (x + 1) * (a .s .w / 2)) (c .before .before .before .before .before .before .before .before .before .before .before .pre .1))
+    let start = c .before .before .before .before .before .before .before .before .before .before .before in
+    let at-cell = c .before .before .before .before .before .before in
+    let a = start .args in
+    view-parts (a .s) (a .active) (a .other) (a .h) (a .ticks .now) (a .rows .now) (a .threads .now) (a .bank) (a .thread) (a .row) (a .e % 2) (at-cell .cell .result) _
+    (ap (λ x. x % 2) (start .pre .1)) (at-cell .cell .ensures .0) refl (c .before .before .before .quota .ensures .0) refl refl refl refl (c .delay .ensures) (ap (λ x. (x + 1) * (a .s .w / 2)) (start .pre .1))
 
 pub look-spec : {M : Type 1} → statement M
 look-spec =
