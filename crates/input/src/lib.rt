@@ -51,8 +51,10 @@ pub fn after_read(size: usize, done: usize, got: isize) -> Read
         let filled = nothing_left(done);
         return Read::Over { filled };
     }
-    if n < size - done {
-        return Read::More { bytes: done + n };
+    let room = size - done;
+    if n < room {
+        let bytes = done + n;
+        return Read::More { bytes };
     }
     Read::Over {
         filled: Filled::Whole,

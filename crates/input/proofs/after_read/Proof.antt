@@ -44,11 +44,11 @@ returns-2 c =
     let a = c .before .before .before .args in
     none-left (a .size) (a .done) (count (c .before .before .before)) (c .nothing-left .result) (c .before .if2 .taken) (c .nothing-left .ensures) ∙ ap (afterRead (a .size) (a .done)) (count-is (c .before .before))
 
-sub-if3 : tie.Need-sub-if3
-sub-if3 c = search needs
+sub-room : tie.Need-sub-room
+sub-room c = search needs
 
-add-t9 : tie.Need-add-t9
-add-t9 c = search needs
+add-bytes : tie.Need-add-bytes
+add-bytes c = search needs
 
 returns-3 : tie.Need-returns-3
 returns-3 c =
@@ -68,7 +68,7 @@ after-read-spec =
     cast-n
     nothing-left-requires
     returns-2
-    sub-if3
-    add-t9
+    sub-room
+    add-bytes
     returns-3
     returns-4)
