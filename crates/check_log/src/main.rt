@@ -1,40 +1,62 @@
 // The program check_log: reads a log from standard input, a block of 512 bytes at a time, and writes the report of document 01.
-// It stops at the first event and reads no further block. The verdict is the checker's; this program only reads and writes.
+// It stops at the first event and reads no further block. The report is proved to be the verdict of some list of bytes, and what is written its
+// text. That these are the bytes of the input, in their order, is not proved: of what a read puts into the block nothing is promised.
+use checker_block::Next;
+use checker_block::Reading;
+use input::Filled;
 use judge::Report;
-use libc::STDIN_FILENO;
 use libc::STDOUT_FILENO;
+ghost use Prim.Native.Nat.{ℕ};
+ghost use mathlib.Core.Path.{_≡_};
+ghost use mathlib.Core.List.{List};
+ghost use Rattle.rules.specs.Policy.{narrow};
+ghost use Rattle.log_format.specs.Verdict.{verdict};
+ghost use Rattle.judge.specs.Follow.{reportOf};
+ghost use Rattle.checker_block.specs.Blocks.{readSoFar, Ready, JudgedBlock};
+ghost use Rattle.report.specs.Text.{textOf};
+ghost use Rattle.check_log.specs.Fills.{judgeFilled};
 
-// How a block was filled.
-enum Filled {
-    Whole,
-    // Nothing was left to read.
-    End,
-    // The input ends within the block, or could not be read: a read that fails is never taken for the end of a log.
-    Cut,
-}
-
-// Fills the block, by as many reads as it takes.
-fn fill(block: &mut [u8]) -> Filled {
-    let mut done: usize = 0;
-    while done < block.len() {
-        let got = libc::read(STDIN_FILENO, &mut block[done..]);
-        if got < 0 {
-            return Filled::Cut;
+// The step from how the block was filled to a report, or to the next block.
+// It rules out: an input that is cut, or cannot be read, reported as one that is at its end.
+fn judge_filled(
+    filled: Filled,
+    x: Reading,
+    counters: &mut [u16],
+    ticks: &mut [u64],
+    rows: &mut [u32],
+    threads: &mut [u32],
+    block: &[u8; 512],
+) -> Next
+    requires { ⌜ Ready (readSoFar x (now counters) (now ticks) (now rows) (now threads)) ⌝ }
+    ensures { λ r. ⌜ JudgedBlock (x .progress .blocks) (r .over) (r .report) (readSoFar (r .reading) (now (counters .exit)) (now (ticks .exit)) (now (rows .exit)) (now (threads .exit))) (judgeFilled filled (readSoFar x (now (counters .entry)) (now (ticks .entry)) (now (rows .entry)) (now (threads .entry))) (now (block .entry))) ⌝ }
+{
+    let p = x.progress;
+    match filled {
+        Filled::Whole => {}
+        Filled::End => {
+            let report = checker::at_end(p, true);
+            return Next {
+                over: true,
+                report,
+                reading: x,
+            };
         }
-        let n = io::count(got, &block[done..]);
-        if n == 0 {
-            if done == 0 {
-                return Filled::End;
-            }
-            return Filled::Cut;
+        Filled::Cut => {
+            let report = checker::at_end(p, false);
+            return Next {
+                over: true,
+                report,
+                reading: x,
+            };
         }
-        done += n;
     }
-    Filled::Whole
+    checker_block::judge_block(x, counters, ticks, rows, threads, block)
 }
 
 // The report on standard input. A block that goes on has a number of 32 bits, so the loop ends.
-fn run() -> Report {
+fn run() -> Report
+    ensures { λ r. ⌜ ((bytes : List ℕ) × (r ≡ reportOf (verdict narrow bytes))) ⌝ }
+{
     let mut block = [0u8; 512];
     let mut counters = [0u16; 32768];
     let mut ticks = [0u64; 4096];
@@ -42,18 +64,9 @@ fn run() -> Report {
     let mut threads = [0u32; 1536];
     let mut x = checker::start();
     loop {
-        match fill(&mut block) {
-            Filled::Whole => {}
-            Filled::End => {
-                let p = x.progress;
-                return checker::at_end(p, true);
-            }
-            Filled::Cut => {
-                let p = x.progress;
-                return checker::at_end(p, false);
-            }
-        }
-        let r = checker_block::judge_block(
+        let filled = input::fill(&mut block);
+        let r = judge_filled(
+            filled,
             x,
             &mut counters,
             &mut ticks,
@@ -70,40 +83,16 @@ fn run() -> Report {
     }
 }
 
-// A word and a number, without the end of the line.
-fn write(word: &[u8], n: u64) {
-    io::write_all(STDOUT_FILENO, word);
-    io::print_decimal(STDOUT_FILENO, n);
-}
-
-// The counts of a log that was judged, a line each.
-fn write_counts(records: u64, opened: u64) {
-    write(b"records ", records);
-    write(b"\nopened ", opened);
+// All that the program writes: the text of the report of some log, from one buffer.
+fn print(text: &[u8])
+    requires { ⌜ ((bytes : List ℕ) × (now text ≡ textOf (reportOf (verdict narrow bytes)))) ⌝ }
+{
+    io::write_all(STDOUT_FILENO, text);
 }
 
 fn main() {
-    let report = run();
-    match report {
-        Report::Refused { number, blocks } => {
-            write(b"refused ", number);
-            write(b" ", blocks);
-            io::write_all(STDOUT_FILENO, b"\n");
-        }
-        Report::Agrees { records, opened } => {
-            write_counts(records, opened);
-            io::write_all(STDOUT_FILENO, b"\nagrees\n");
-        }
-        Report::Differs {
-            records,
-            opened,
-            block,
-            place,
-        } => {
-            write_counts(records, opened);
-            write(b"\ndiffers ", block);
-            write(b" ", place);
-            io::write_all(STDOUT_FILENO, b"\n");
-        }
-    }
+    let r = run();
+    let mut text = [0u8; 128];
+    let n = report::lay(r, &mut text);
+    print(&text[..n]);
 }

@@ -57,11 +57,11 @@ start-memory h e = rw e refl
 
 -- ---- block by block
 
-over-verdict : (b : Bool) (r : Report) (x : Running) (y : Step) (f : Running → Verdict) → Follows b r x y → b ≡ true → r ≡ reportOf (verdictOf y f)
+pub over-verdict : (b : Bool) (r : Report) (x : Running) (y : Step) (f : Running → Verdict) → Follows b r x y → b ≡ true → r ≡ reportOf (verdictOf y f)
 over-verdict b r x (over v) f h e = h .1
 over-verdict b r x (on y) f h e = absurd (not-both b e (h .0))
 
-on-verdict : (b : Bool) (r : Report) (x : Running) (y : Step) (f : Running → Verdict) → Follows b r x y → b ≡ false → verdictOf y f ≡ f x
+pub on-verdict : (b : Bool) (r : Report) (x : Running) (y : Step) (f : Running → Verdict) → Follows b r x y → b ≡ false → verdictOf y f ≡ f x
 on-verdict b r x (over v) f h e = absurd (not-both b (h .0) e)
 on-verdict b r x (on y) f h e = ap f (h .1)
 

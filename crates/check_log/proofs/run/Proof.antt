@@ -1,12 +1,17 @@
--- `run` goes over the blocks of the input up to the first event. Each block that goes on is counted, and the count stays within 32 bits.
+-- `run` goes over the blocks of the input up to the first event, and reports the verdict of some bytes. Each block that goes on is counted, and
 use Prim.Native.Nat.{_-_, _^_}
 use mathlib.Core.Path.{_≡_}
 use native.Mathlib.Omega.{arith}
 use lib.ListN.{length}
+use Rattle.log_format.specs.Verdict.{Running, memory}
 use Rattle.checker_block.specs.Blocks.{readSoFar, Ready}
+use Rattle.checker.proofs.Logs.{start-memory}
+use Rattle.check_log.proofs.Fills.{SoFar, none-yet, goes-on, is-over}
 use borrow.Author.Needs.{needs}
 use Rattle.check_log.proofs.run.Statement.{statement}
 use Rattle.check_log.proofs.run.Tie as tie
+
+-- the count stays within 32 bits.
 
 abbrev Inv-loop : tie.InvT-loop
 Inv-loop block₀ counters₀ ticks₀ rows₀ threads₀ x₀ block counters ticks rows threads x =
@@ -16,22 +21,25 @@ Inv-loop block₀ counters₀ ticks₀ rows₀ threads₀ x₀ block counters ti
     × (4096 ≡ length rows)
     × (1536 ≡ length threads)
     × Ready (readSoFar x counters ticks rows threads)
+    × SoFar (readSoFar x counters ticks rows threads)
 
 abbrev μ-loop : tie.MeasureT-loop
 μ-loop block₀ counters₀ ticks₀ rows₀ threads₀ x₀ block counters ticks rows threads x = 2 ^ 32 - x .progress .blocks
+
+abbrev read : tie.At-loop Inv-loop μ-loop → Running
+read c = let l = c .loop in readSoFar (l .x) (l .counters) (l .ticks) (l .rows) (l .threads)
+
+abbrev next : tie.After-judge-filled Inv-loop μ-loop → Running
+next c =
+    let q = c .judge-filled in
+    readSoFar (q .result .reading) (q .last .1 .1 .0) (q .last .1 .1 .1 .0) (q .last .1 .1 .1 .1 .0) (q .last .1 .1 .1 .1 .1 .0)
 
 start-requires : tie.Need-start-requires Inv-loop μ-loop
 start-requires c κs = search needs
 
 loop-holds : tie.Need-loop-holds Inv-loop μ-loop
-loop-holds c = (
-  omega arith,
-  omega arith,
-  omega arith,
-  omega arith,
-  omega arith,
-  c .start .ensures .2 _ _ _ _,
-)
+unfolding memory
+loop-holds c = (omega arith, omega arith, omega arith, omega arith, omega arith, c .start .ensures .2 _ _ _ _, none-yet _ (c .start .ensures .0) (start-memory _ (c .start .ensures .1)))
 
 slice-aggregate-fill : tie.Need-slice-aggregate-fill Inv-loop μ-loop
 slice-aggregate-fill c = search needs
@@ -39,62 +47,47 @@ slice-aggregate-fill c = search needs
 fill-requires : tie.Need-fill-requires Inv-loop μ-loop
 fill-requires c κs = search needs
 
-enum-told : tie.Need-enum-told Inv-loop μ-loop
-enum-told c = search needs
+slice-aggregate-judge-filled : tie.Need-slice-aggregate-judge-filled Inv-loop μ-loop
+slice-aggregate-judge-filled c = search needs
 
-enum-told-2 : tie.Need-enum-told-2 Inv-loop μ-loop
-enum-told-2 c = search needs
+slice-aggregate-judge-filled-2 : tie.Need-slice-aggregate-judge-filled-2 Inv-loop μ-loop
+slice-aggregate-judge-filled-2 c = search needs
 
-at-end-requires : tie.Need-at-end-requires Inv-loop μ-loop
-at-end-requires c κs = search needs
+slice-aggregate-judge-filled-3 : tie.Need-slice-aggregate-judge-filled-3 Inv-loop μ-loop
+slice-aggregate-judge-filled-3 c = search needs
+
+slice-aggregate-judge-filled-4 : tie.Need-slice-aggregate-judge-filled-4 Inv-loop μ-loop
+slice-aggregate-judge-filled-4 c = search needs
+
+judge-filled-requires : tie.Need-judge-filled-requires Inv-loop μ-loop
+judge-filled-requires c κs = c .before .before .before .before .before .before .before .before .loop .inv .5
 
 returns : tie.Need-returns Inv-loop μ-loop
-returns c = search needs
-
-enum-told-3 : tie.Need-enum-told-3 Inv-loop μ-loop
-enum-told-3 c = search needs
-
-at-end-requires-2 : tie.Need-at-end-requires-2 Inv-loop μ-loop
-at-end-requires-2 c κs = search needs
-
-returns-2 : tie.Need-returns-2 Inv-loop μ-loop
-returns-2 c = search needs
-
-slice-aggregate-judge-block : tie.Need-slice-aggregate-judge-block Inv-loop μ-loop
-slice-aggregate-judge-block c = search needs
-
-slice-aggregate-judge-block-2 : tie.Need-slice-aggregate-judge-block-2 Inv-loop μ-loop
-slice-aggregate-judge-block-2 c = search needs
-
-slice-aggregate-judge-block-3 : tie.Need-slice-aggregate-judge-block-3 Inv-loop μ-loop
-slice-aggregate-judge-block-3 c = search needs
-
-slice-aggregate-judge-block-4 : tie.Need-slice-aggregate-judge-block-4 Inv-loop μ-loop
-slice-aggregate-judge-block-4 c = search needs
-
-judge-block-requires : tie.Need-judge-block-requires Inv-loop μ-loop
-judge-block-requires c κs = c .before .before .before .before .before .before .before .before .before .before .loop .inv .5
-
-returns-3 : tie.Need-returns-3 Inv-loop μ-loop
-returns-3 c = search needs
+returns c =
+    let i = c .before .before .before .before .before .before .before .before .before .before .before .before .before .before .loop .inv in
+    let q = c .before .before .before .before .before .judge-filled in
+    let n : length (c .before .before .before .before .before .before .before .before .before .before .before .before .fill .last .0) ≡ 512 = omega (arith, c .before .before .before .before .before .before .before .before .before .before .before .before .fill .kept .0, i .0) in
+    is-over (c .before .before .before .before .before .before .before .before .before .before .before .before .fill .result) (read (c .before .before .before .before .before .before .before .before .before .before .before .before .before .before)) (next (c .before .before .before .before .before)) (c .before .before .before .before .before .before .before .before .before .before .before .before .fill .last .0) (q .result .over) (q .result .report) (i .6) n (q .ensures .follows) (c .if1 .taken)
 
 loop-less : tie.Need-loop-less Inv-loop μ-loop
 loop-less c =
-    let q = c .before .before .before .before .before .before .judge-block in
+    let q = c .before .before .before .before .before .before .judge-filled in
     let m = q .ensures .moved (c .before .if1 .left) in
     let r = q .ensures .ready (c .before .if1 .left) .blocks in
     omega arith
 
 loop-again : tie.Need-loop-again Inv-loop μ-loop
 loop-again c =
-    let q = c .before .before .before .before .before .before .judge-block in
-    let i = c .before .before .before .before .before .before .before .before .before .before .before .before .before .before .before .before .before .loop .inv in (
-      omega (arith, c .before .before .before .before .before .before .before .before .before .before .before .before .before .before .before .fill .kept .0, i .0),
-      omega (arith, q .kept .1 .0, i .1),
-      omega (arith, q .kept .1 .1 .0, i .2),
-      omega (arith, q .kept .1 .1 .1 .0, i .3),
-      omega (arith, q .kept .1 .1 .1 .1 .0, i .4),
+    let q = c .before .before .before .before .before .before .judge-filled in
+    let i = c .before .before .before .before .before .before .before .before .before .before .before .before .before .before .before .loop .inv in
+    let n : length (c .before .before .before .before .before .before .before .before .before .before .before .before .before .fill .last .0) ≡ 512 = omega (arith, c .before .before .before .before .before .before .before .before .before .before .before .before .before .fill .kept .0, i .0) in (
+      omega (arith, n),
+      omega (arith, q .kept .1 .1 .0, i .1),
+      omega (arith, q .kept .1 .1 .1 .0, i .2),
+      omega (arith, q .kept .1 .1 .1 .1 .0, i .3),
+      omega (arith, q .kept .1 .1 .1 .1 .1 .0, i .4),
       q .ensures .ready (c .before .if1 .left),
+      goes-on (c .before .before .before .before .before .before .before .before .before .before .before .before .before .fill .result) (read (c .before .before .before .before .before .before .before .before .before .before .before .before .before .before .before)) (next (c .before .before .before .before .before .before)) (c .before .before .before .before .before .before .before .before .before .before .before .before .before .fill .last .0) (q .result .over) (q .result .report) (i .6) n (q .ensures .follows) (c .before .if1 .left),
     )
 
 pub run-spec : {M : Type 1} → statement M
@@ -107,18 +100,11 @@ run-spec =
     loop-holds
     slice-aggregate-fill
     fill-requires
-    enum-told
-    enum-told-2
-    at-end-requires
+    slice-aggregate-judge-filled
+    slice-aggregate-judge-filled-2
+    slice-aggregate-judge-filled-3
+    slice-aggregate-judge-filled-4
+    judge-filled-requires
     returns
-    enum-told-3
-    at-end-requires-2
-    returns-2
-    slice-aggregate-judge-block
-    slice-aggregate-judge-block-2
-    slice-aggregate-judge-block-3
-    slice-aggregate-judge-block-4
-    judge-block-requires
-    returns-3
     loop-less
     loop-again)
