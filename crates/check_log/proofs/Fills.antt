@@ -6,7 +6,7 @@ use mathlib.Core.List.{List, [], _∷_, _++_, append-assoc, append-nil}
 use native.Mathlib.Omega.{arith}
 use lib.ListN.{length}
 use Rattle.rules.specs.Policy.{limits01, narrow}
-use Rattle.log_format.specs.Verdict.{Verdict, Running, Step, over, on, memory, ended, verdictOf, judgeBlock, judgeBlocks, unread, verdict}
+use Rattle.log_format.specs.Verdict.{Running, over, memory, ended, judgeBlock, judgeBlocks, unread, verdict}
 use Rattle.judge.specs.declared.Report.{Report}
 use Rattle.judge.specs.Follow.{reportOf, Follows}
 use Rattle.checker_block.specs.Blocks.{JudgedBlock}

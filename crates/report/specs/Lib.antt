@@ -1,2 +1,3 @@
 pub mod Bytes
 pub mod Text
+pub mod Samples

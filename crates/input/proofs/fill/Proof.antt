@@ -4,7 +4,7 @@ use mathlib.Core.Path.{_≡_, refl}
 use mathlib.Core.List.{[]}
 use native.Mathlib.Omega.{arith}
 use lib.ListN.{length}
-use Rattle.input.specs.declared.Read.the-variants.{More, Over}
+use Rattle.input.specs.declared.Read.the-variants.{More}
 use Rattle.input.specs.Reads.{afterReads, readsFrom}
 use Rattle.input.proofs.Given.{Reads, grown, reads-more}
 use borrow.Author.Needs.{needs}

@@ -1,7 +1,6 @@
 -- `nothing_left` tells the end of the input from one that is cut.
 use borrow.Author.Tests.{eq-eqb, ne-eqb}
 use Rattle.input.specs.Reads.{nothingLeft}
-use borrow.Author.Needs.{needs}
 use Rattle.input.proofs.nothing_left.Statement.{statement}
 use Rattle.input.proofs.nothing_left.Tie as tie
 
