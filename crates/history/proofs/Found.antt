@@ -25,13 +25,6 @@ module _ (h td p : ℕ) (ticks rows : List ℕ) (word t : ℕ) (ph : p < h) wher
       go (inl f) = inl (f .0)
       go (inr f) = inr (rw (f .1) (back-lt h p ph (f .0) (omega (arith, f .3))), rw (f .1) (f .4))
 
-  pub found-le : place ≤ h
-  found-le = go told
-    where
-      go : Told → place ≤ h
-      go (inl e) = omega arith
-      go (inr m) = omega (arith, m .0)
-
   -- a place that was found holds a stored tick from 1 to t + 1
   pub found-stored : place < h → (1 ≤ getD ticks place 0) × (getD ticks place 0 ≤ t + 1)
   found-stored l = go told

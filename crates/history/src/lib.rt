@@ -7,7 +7,7 @@ ghost use lib.Dec.{T, ltb, eqb};
 ghost use lib.ListN.{length, getD, set};
 ghost use Rattle.rules.specs.Cells.{every, clearCells};
 ghost use Rattle.rules.specs.History.{back, notAfter, neverRises, find};
-ghost use Rattle.history.specs.Runs.{neverFalls, newestIn};
+ghost use Rattle.history.specs.Runs.{neverFalls};
 
 // ---- the test of the stored ticks
 
@@ -64,12 +64,12 @@ fn never_falls(ticks: &[u64], i: usize, n: usize) -> bool
     scan(ticks, i, n)
 }
 
-// The place of the newest activation.
-fn newest_place(h: usize, next: usize) -> usize
-    requires { ⌜ next < h ⌝ }
-    ensures { λ r. ⌜ (r ≡ back h next 0) × (r < h) ⌝ }
+// The place before p in the ring; before the next place lies the newest one.
+fn place_before(h: usize, p: usize) -> usize
+    requires { ⌜ p < h ⌝ }
+    ensures { λ r. ⌜ (r ≡ back h p 0) × (r < h) ⌝ }
 {
-    if next == 0 { h - 1 } else { next - 1 }
+    if p == 0 { h - 1 } else { p - 1 }
 }
 
 // Whether no stored tick is after the last tick, and none rises from the newest place back. One pass is enough: where none
@@ -79,7 +79,7 @@ pub fn steady(ticks: &[u64], h: usize, next: usize, last: u64) -> bool
     requires { ⌜ (next < h) × (h ≤ length (now ticks)) ⌝ }
     ensures { λ r. ⌜ r ≡ (every h (λ p. notAfter last (getD (now (ticks .entry)) p 0)) && neverRises h next (now (ticks .entry))) ⌝ }
 {
-    let newest = newest_place(h, next);
+    let newest = place_before(h, next);
     if !is_not_after(ticks[newest], last) {
         return false;
     }
@@ -108,38 +108,9 @@ fn old_limit(t: u64, td: u64) -> u64
     newest - td
 }
 
-// The newest place from low up to below high that has the row word, or `none`. The search is newest first, and ends at the
-// first place whose stored tick is not above the limit.
-fn newest_in(
-    ticks: &[u64],
-    rows: &[u32],
-    low: usize,
-    high: usize,
-    word: u32,
-    limit: u64,
-    none: usize,
-) -> usize
-    requires { ⌜ (low ≤ high) × (high ≤ length (now ticks)) × (high ≤ length (now rows)) ⌝ }
-    ensures { λ r. ⌜ r ≡ newestIn (now (ticks .entry)) (now (rows .entry)) word limit none low (high - low) ⌝ }
-{
-    let mut p: usize = high;
-    let found = loop {
-        if p == low {
-            break none;
-        }
-        p -= 1;
-        if ticks[p] <= limit {
-            break none;
-        }
-        if rows[p] == word {
-            break p;
-        }
-    };
-    found
-}
-
-// The place of the newest activation of the row that is under td ticks old at tick t, or h: of the places before `next`, else of
-// those from it on. A place that is empty or too old ends the search: in a history that does not rise, so is every older one.
+// The place of the newest activation of the row that is under td ticks old at tick t, or h. The place falls by one from the newest on, from 0 to
+// h - 1, as far as the next place, which is the oldest: low is where it stops falling, first 0 and then the next place. A place that is empty
+// or too old ends the search: in a history that does not rise, so is every older one.
 pub fn first_match(
     ticks: &[u64],
     rows: &[u32],
@@ -153,11 +124,25 @@ pub fn first_match(
     ensures { λ r. ⌜ (r ≡ find h td next (now (ticks .entry)) (now (rows .entry)) word t) × (r ≤ h) ⌝ }
 {
     let limit = old_limit(t, td);
-    let newer = newest_in(ticks, rows, 0, next, word, limit, h);
-    if newer != h {
-        return newer;
-    }
-    newest_in(ticks, rows, next, h, word, limit, h)
+    let mut p = place_before(h, next);
+    let mut low: usize = 0;
+    let found = loop {
+        if ticks[p] <= limit {
+            break h;
+        }
+        if rows[p] == word {
+            break p;
+        }
+        if p == low {
+            if low == next {
+                break h;
+            }
+            low = next;
+            p = h;
+        }
+        p -= 1;
+    };
+    found
 }
 
 // The first tick at which the activation found is td ticks old, 0 where none was found.

@@ -17,7 +17,7 @@ use Rattle.history.proofs.steady.Tie as tie
 newest-ok : (c : tie.Else1) → T (notAfter (c .before .before .before .before .before .args .last) (getD (c .before .before .before .before .before .args .ticks .now) (back (c .before .before .before .before .before .args .h) (c .before .before .before .before .before .args .next) 0) 0))
 newest-ok c =
     let a = c .before .before .before .before .before .args in
-    rw (c .before .before .before .newest-place .ensures .0) at (passed (c .before .is-not-after .result) (notAfter (a .last) (getD (a .ticks .now) (c .before .before .before .newest-place .result) 0)) (c .before .is-not-after .ensures) (c .if1 .left))
+    rw (c .before .before .before .place-before .ensures .0) at (passed (c .before .is-not-after .result) (notAfter (a .last) (getD (a .ticks .now) (c .before .before .before .place-before .result) 0)) (c .before .is-not-after .ensures) (c .if1 .left))
 
 -- the cells before `next`, where there are any, follow on the others and do not fall
 low-ok : (c : tie.Joined2) → 0 < c .before .before .before .before .before .before .args .next → (getD (c .before .before .before .before .before .before .args .ticks .now) (c .before .before .before .before .before .before .args .h - 1) 0 ≤ getD (c .before .before .before .before .before .before .args .ticks .now) 0 0) × T (neverFalls (c .before .before .before .before .before .before .args .ticks .now) 0 (c .before .before .before .before .before .before .args .next - 1))
@@ -25,8 +25,8 @@ low-ok c z =
     let a = c .before .before .before .before .before .before .args in
     ⊎-elim (λ w. (omega (arith, w .3 .left), passed (w .4 .result) (neverFalls (a .ticks .now) 0 (a .next - 1)) (w .4 .ensures) (w .5 .left))) (λ w. absurd (omega arith)) (c .if2 .came)
 
-newest-place-requires : tie.Need-newest-place-requires
-newest-place-requires c κs = search needs
+place-before-requires : tie.Need-place-before-requires
+place-before-requires c κs = search needs
 
 mul-is-not-after : tie.Need-mul-is-not-after
 mul-is-not-after c = search needs
@@ -40,8 +40,8 @@ is-not-after-requires c κs = search needs
 returns : tie.Need-returns
 returns c =
     let a = c .before .before .before .before .before .args in
-    rejected-by (c .before .is-not-after .result) (notAfter (a .last) (getD (a .ticks .now) (c .before .before .before .newest-place .result) 0)) (tested (a .ticks .now) (a .h) (a .next) (a .last)) (c .before .is-not-after .ensures) (c .if1 .taken)
-    (λ s. rw (c .before .before .before .newest-place .ensures .0) (steady-newest (a .ticks .now) (a .h) (a .next) (a .last) (omega arith) s))
+    rejected-by (c .before .is-not-after .result) (notAfter (a .last) (getD (a .ticks .now) (c .before .before .before .place-before .result) 0)) (tested (a .ticks .now) (a .h) (a .next) (a .last)) (c .before .is-not-after .ensures) (c .if1 .taken)
+    (λ s. rw (c .before .before .before .place-before .ensures .0) (steady-newest (a .ticks .now) (a .h) (a .next) (a .last) (omega arith) s))
 
 shared-slice-read-if3 : tie.Need-shared-slice-read-if3
 shared-slice-read-if3 c = search needs
@@ -95,7 +95,7 @@ pub steady-spec : {M : Type 1} → statement M
 steady-spec =
     tie.close
     (tie.spec
-    newest-place-requires
+    place-before-requires
     mul-is-not-after
     shared-slice-read-is-not-after
     is-not-after-requires
