@@ -21,7 +21,7 @@ use Rattle.log_format.specs.Bytes.{little, zeros, blockAt, blocksFrom}
 use Rattle.log_format.specs.Refusals.{sound}
 use Rattle.log_format.specs.Contents.{countIn, settingIn, halves, seedsIn}
 use Rattle.log_format.specs.Blocks.{startLaidOut, inTurn, laidOut, blockRefusal}
-use Rattle.log_format.specs.Encode.{numbersBytes, putStart, startBlock, recordsBlock, laterBlocks, joined, logBytes}
+use Rattle.log_format.specs.Encode.{numbersBytes, putStart, startBlock, recordsBlock, laterBlocks, joined, logBytesOver}
 use Rattle.log_format.specs.Claims.{settingOfLog, seedsOfLog, laterOf, entriesOf, recordsOf, SoundFrom, Faithful, Writable, WrittenAgrees}
 use Rattle.log_format.proofs.Numbers.{length-halves, getD-halves}
 use Rattle.log_format.proofs.ReadBack.{little-same, little-below, zeros-all, numbers-read}
@@ -94,11 +94,6 @@ module _ (s setting seeds : List ℕ) (len : length s ≡ 512) where
 
 -- ---- the later blocks
 
-later-none : (s : List ℕ) (n b : ℕ) → laterBlocks s n b [] ≡ []
-unfolding laterBlocks
-later-none s zero b = refl
-later-none s (suc n) b = refl
-
 all-take : (n : ℕ) (es : List Entry) → All Writable es → All Writable (take n es)
 all-take zero es w = tt
 all-take (suc n) [] w = tt
@@ -128,25 +123,25 @@ pub record Later (b before : ℕ) (es : List Entry) (ss : List (List ℕ)) : Typ
   pub records : entriesOf ss ≡ es
   pub lengths : All (λ t. length t ≡ 512) ss
 
-pub later : (s : List ℕ) (n b before : ℕ) (es : List Entry) → length s ≡ 512 → 1 ≤ b → length es ≤ n → length es ≤ 20 * (2 ^ 32 - b)
-    → (1 ≤ length es → inTurn b before ≡ true) → All Writable es → Later b before es (laterBlocks s n b es)
+pub later : (old : ℕ → List ℕ) (n b before : ℕ) (es : List Entry) → ((c : ℕ) → length (old c) ≡ 512) → 1 ≤ b → length es ≤ n → length es ≤ 20 * (2 ^ 32 - b)
+    → (1 ≤ length es → inTurn b before ≡ true) → All Writable es → Later b before es (laterBlocks old n b es)
 unfolding laterBlocks
-later s zero b before [] len lb ln lt turn w = record { blocks = tt; records = refl; lengths = tt }
-later s zero b before (e ∷ es) len lb ln lt turn w = absurd (omega arith)
-later s (suc n) b before [] len lb ln lt turn w = record { blocks = tt; records = refl; lengths = tt }
-later s (suc n) b before (e ∷ es) len lb ln lt turn w =
+later old zero b before [] len lb ln lt turn w = record { blocks = tt; records = refl; lengths = tt }
+later old zero b before (e ∷ es) len lb ln lt turn w = absurd (omega arith)
+later old (suc n) b before [] len lb ln lt turn w = record { blocks = tt; records = refl; lengths = tt }
+later old (suc n) b before (e ∷ es) len lb ln lt turn w =
     let all = e ∷ es in
     let front = take 20 all in
     let lf : length front ≡ min 20 (length all) = length-take 20 all in
     let ld : length (drop 20 all) ≡ length all - 20 = length-drop 20 all in
     let hi : b < 2 ^ 32 = omega arith in
     let wf = all-take 20 all w in
-    let f = records-frame s b front len lb hi (omega arith) (omega arith) wf in
-    let r = records-read s b front len lb hi (omega arith) (omega arith) wf in
-    let o = records-sound s b front len lb hi (omega arith) (omega arith) wf before (turn (omega arith)) in
-    let next : 1 ≤ length (drop 20 all) → inTurn (suc b) (countIn (recordsBlock s b front)) ≡ true =
-    λ h. full (suc b) (countIn (recordsBlock s b front)) (omega (arith, f .count)) in
-    let i = later s n (suc b) (countIn (recordsBlock s b front)) (drop 20 all) len (omega arith) (omega arith) (omega arith) next (all-drop 20 all w) in
+    let f = records-frame (old b) b front (len b) lb hi (omega arith) (omega arith) wf in
+    let r = records-read (old b) b front (len b) lb hi (omega arith) (omega arith) wf in
+    let o = records-sound (old b) b front (len b) lb hi (omega arith) (omega arith) wf before (turn (omega arith)) in
+    let next : 1 ≤ length (drop 20 all) → inTurn (suc b) (countIn (recordsBlock (old b) b front)) ≡ true =
+    λ h. full (suc b) (countIn (recordsBlock (old b) b front)) (omega (arith, f .count)) in
+    let i = later old n (suc b) (countIn (recordsBlock (old b) b front)) (drop 20 all) len (omega arith) (omega arith) (omega arith) next (all-drop 20 all w) in
     let one : b + 1 ≡ suc b = omega arith in
     record {
       blocks = (o, rw one (i .blocks));
@@ -174,24 +169,24 @@ blocks-of p b (t ∷ ss) lp a =
 -- ---- the log
 
 pub written-agrees : (p : Policy) → p .limits .threshold < 2 ^ 32 → WrittenAgrees p
-unfolding logBytes
-written-agrees p small s setting seeds es len e w few d =
+unfolding logBytesOver
+written-agrees p small old setting seeds es len e w few d =
     let ok = accepted (p .limits) (settingOf setting) seeds e in
-    let t = startBlock s setting seeds in
-    let ss = laterBlocks s (length es) 1 es in
+    let t = startBlock (old 0) setting seeds in
+    let ss = laterBlocks old (length es) 1 es in
     let bytes = joined (t ∷ ss) in
-    let f = later s (length es) 1 0 es len (omega arith) (omega arith) few (λ h. first-block) w in
-    let lt : length t ≡ 512 = start-frame s setting seeds len .long in
+    let f = later old (length es) 1 0 es len (omega arith) (omega arith) few (λ h. first-block) w in
+    let lt : length t ≡ 512 = start-frame (old 0) setting seeds (len 0) .long in
     let lj : length bytes ≡ 512 * suc (length ss) = length-joined (t ∷ ss) (lt, f .lengths) in
     let n : length bytes / 512 - 1 ≡ length ss = omega arith in
     let b0 : blockAt bytes 0 ≡ t = block-of [] t (joined ss) 0 refl lt in
     let bs : laterOf bytes ≡ ss = ap (λ (k : ℕ). blocksFrom bytes 1 k) n ∙ blocks-of t 1 ss (omega arith) (f .lengths) in
     let es-is : recordsOf bytes ≡ es = ap entriesOf bs ∙ f .records in
-    let set-is : settingOfLog bytes ≡ settingOf setting = ap settingIn b0 ∙ start-setting s setting seeds len (p .limits) small ok in
-    let seeds-is : seedsOfLog bytes ≡ seeds = ap seedsIn b0 ∙ start-seeds s setting seeds len (p .limits) ok in
+    let set-is : settingOfLog bytes ≡ settingOf setting = ap settingIn b0 ∙ start-setting (old 0) setting seeds (len 0) (p .limits) small ok in
+    let seeds-is : seedsOfLog bytes ≡ seeds = ap seedsIn b0 ∙ start-seeds (old 0) setting seeds (len 0) (p .limits) ok in
     let faithful : Faithful p bytes =
     record {
-      wellFormed = record { whole = omega arith; some = omega arith; start = rw b0 (start-sound s setting seeds len); later = rw bs (f .blocks) };
+      wellFormed = record { whole = omega arith; some = omega arith; start = rw b0 (start-sound (old 0) setting seeds (len 0)); later = rw bs (f .blocks) };
       accepted = rw (set-is, seeds-is) e;
       decided = rw (es-is, set-is, seeds-is) d;
     } in

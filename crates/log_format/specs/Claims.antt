@@ -17,7 +17,7 @@ use Rattle.log_format.specs.Refusals.{sound}
 use Rattle.log_format.specs.Contents.{countIn, settingIn, seedsIn, callOf, entriesIn}
 use Rattle.log_format.specs.Blocks.{blockRefusal}
 use Rattle.log_format.specs.Verdict.{agrees, judged, memory, verdict}
-use Rattle.log_format.specs.Encode.{written, startBlock, startWritten, putRecord, recordWritten, putRecords, recordsBlock, sealWritten, logBytes}
+use Rattle.log_format.specs.Encode.{written, startBlock, startWritten, putRecord, recordWritten, putRecords, recordsBlock, sealWritten, logBytesOver}
 
 -- ---- what a log says
 
@@ -116,12 +116,14 @@ pub record Writable (e : Entry) : Type 0 where
   pub answer : e .answer ≤ 4
 
 -- What the encoder writes is accepted: a log of the rules' decisions under an accepted setting, of any length that block numbers of
--- 32 bits allow, each block written into any 512 bytes. (It is proved where N is within 32 bits, as the format has it.)
+-- 32 bits allow, each block written over any 512 bytes of its own, or all over the same (`logBytes`). (It is proved where N is within 32 bits,
+-- as the format has it.)
 abbrev pub WrittenAgrees : Policy → Type 0
 WrittenAgrees p =
-    (s setting seeds : List ℕ) (es : List Entry) → length s ≡ 512 → settingRefusal (p .limits) (settingOf setting) seeds ≡ none
+    (old : ℕ → List ℕ) (setting seeds : List ℕ) (es : List Entry) → ((b : ℕ) → length (old b) ≡ 512)
+    → settingRefusal (p .limits) (settingOf setting) seeds ≡ none
     → All Writable es → length es ≤ 20 * (2 ^ 32 - 1) → Decided es (rulesSay p (settingOf setting) seeds es)
-    → verdict p (logBytes s setting seeds es) ≡ judged (length es) (rulesOpen p (settingOf setting) seeds es) agrees
+    → verdict p (logBytesOver old setting seeds es) ≡ judged (length es) (rulesOpen p (settingOf setting) seeds es) agrees
 
 -- The encoder's calls write the blocks of such a log and refuse none of it: block 0 of an accepted setting, a record that the format can
 -- hold, a block of 1 to 20 records under a number of 32 bits.

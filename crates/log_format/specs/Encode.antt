@@ -104,17 +104,22 @@ putRecords s k (e ∷ es) = putRecords (putRecord s k e) (suc k) es
 unfoldable pub recordsBlock : List ℕ → ℕ → List Entry → List ℕ
 recordsBlock s b es = framed (putRecords s 0 es) b (length es) (recordAt (length es))
 
--- "Later blocks have 1 to 20 records .., all but the last block 20": at most n blocks from block b on
-unfoldable pub laterBlocks : List ℕ → ℕ → ℕ → List Entry → List (List ℕ)
-laterBlocks s zero b es = []
-laterBlocks s (suc n) b [] = []
-laterBlocks s (suc n) b (e ∷ es) = recordsBlock s b (take 20 (e ∷ es)) ∷ laterBlocks s n (suc b) (drop 20 (e ∷ es))
+-- "Later blocks have 1 to 20 records .., all but the last block 20": at most n blocks from block b on, each written over bytes of its own
+unfoldable pub laterBlocks : (ℕ → List ℕ) → ℕ → ℕ → List Entry → List (List ℕ)
+laterBlocks old zero b es = []
+laterBlocks old (suc n) b [] = []
+laterBlocks old (suc n) b (e ∷ es) = recordsBlock (old b) b (take 20 (e ∷ es)) ∷ laterBlocks old n (suc b) (drop 20 (e ∷ es))
 
 -- blocks one after another
 abbrev pub joined : List (List ℕ) → List ℕ
 joined [] = []
 joined (s ∷ ss) = s ++ joined ss
 
--- the bytes of a log with this setting, these seeds and these records, each block written into s
-unfoldable pub logBytes : List ℕ → List ℕ → List ℕ → List Entry → List ℕ
-logBytes s setting seeds es = joined (startBlock s setting seeds ∷ laterBlocks s (length es) 1 es)
+-- The bytes of a log with this setting, these seeds and these records. Before block b is written its buffer holds the bytes `old b`: those of
+-- the block before, for a caller who reuses one buffer.
+unfoldable pub logBytesOver : (ℕ → List ℕ) → List ℕ → List ℕ → List Entry → List ℕ
+logBytesOver old setting seeds es = joined (startBlock (old 0) setting seeds ∷ laterBlocks old (length es) 1 es)
+
+-- the same, each block written over the same bytes s
+abbrev pub logBytes : List ℕ → List ℕ → List ℕ → List Entry → List ℕ
+logBytes s setting seeds es = logBytesOver (λ b. s) setting seeds es

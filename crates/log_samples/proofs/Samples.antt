@@ -23,7 +23,7 @@ use Rattle.log_format.specs.Bytes.{little, bytesOf, zeros, blockAt}
 use Rattle.log_format.specs.Contents.{settingIn, halves, seedsIn, entryIn}
 use Rattle.log_format.specs.Blocks.{sumTo, weightedTo, checked, startLaidOut, recordLaidOut, recordsLaidOut, inTurn, laidOut, blockRefusal}
 use Rattle.log_format.specs.Verdict.{agrees, judged, claims, judgeRecord, judgeRecords, memory, judgeStart, judgeLater, judgeSound, judgeBlock, judgeBlocks, unread, verdict}
-use Rattle.log_format.specs.Encode.{recordBytes, putRecord, headed, padded, summed, framed, numbersBytes, putStart, putRecords, recordsBlock, startBlock, laterBlocks, logBytes}
+use Rattle.log_format.specs.Encode.{recordBytes, putRecord, headed, padded, summed, framed, numbersBytes, putStart, putRecords, recordsBlock, startBlock, laterBlocks, logBytesOver}
 use Rattle.log_format.specs.declared.Entry.{Entry}
 use Rattle.log_format.specs.Claims.{callsOf, rulesSay, rulesOpen, Decided, Writable}
 use Rattle.log_format.proofs.Theorems.{theorems}
@@ -38,7 +38,7 @@ writable tick answer wait t w a =
 agreeing : (es : List Entry) → All Writable es → length es ≤ 20 * (2 ^ 32 - 1) → Decided es (rulesSay narrow S house es)
     → verdict narrow (logS es) ≡ judged (length es) (rulesOpen narrow S house es) agrees
 unfolding logS settingOf house historyLength rowBound fieldsInRange seedsInRange settingRefusal
-agreeing es w few d = theorems .writtenAgrees narrow (omega arith) (replicate 512 0) (40 ∷ 1 ∷ 4 ∷ 2 ∷ 6 ∷ 10 ∷ 4 ∷ 1 ∷ 1 ∷ []) house es refl refl w few d
+agreeing es w few d = theorems .writtenAgrees narrow (omega arith) (λ b. replicate 512 0) (40 ∷ 1 ∷ 4 ∷ 2 ∷ 6 ∷ 10 ∷ 4 ∷ 1 ∷ 1 ∷ []) house es (λ b. refl) refl w few d
 
 -- the four records, and what the rules say of them
 records : List Entry
@@ -72,5 +72,5 @@ start : verdict narrow (logS []) ≡ judged 0 0 agrees
 start = agreeing [] tt (omega arith) tt
 
 pub cases : Cases
-unfolding house historyLength rowBound fieldsInRange seedsInRange settingRefusal tooShort freshHead fresh turnedCounters turnedThreads movedHead turned hash places estimate raised named counted nextPlace back neverRises memoryOk rowFree quotaDown passesAt waitTick decide activatedHead activatedThreads activated setupRefusal callRefusal doneRefusal unlessRefused requested reported step little bytesOf zeros blockAt settingIn halves seedsIn entryIn sumTo weightedTo checked startLaidOut recordLaidOut recordsLaidOut inTurn laidOut blockRefusal claims judgeRecord judgeRecords memory judgeStart judgeLater judgeSound judgeBlock judgeBlocks unread verdict recordBytes putRecord headed padded summed framed numbersBytes putStart putRecords recordsBlock startBlock laterBlocks logBytes logS
+unfolding house historyLength rowBound fieldsInRange seedsInRange settingRefusal tooShort freshHead fresh turnedCounters turnedThreads movedHead turned hash places estimate raised named counted nextPlace back neverRises memoryOk rowFree quotaDown passesAt waitTick decide activatedHead activatedThreads activated setupRefusal callRefusal doneRefusal unlessRefused requested reported step little bytesOf zeros blockAt settingIn halves seedsIn entryIn sumTo weightedTo checked startLaidOut recordLaidOut recordsLaidOut inTurn laidOut blockRefusal claims judgeRecord judgeRecords memory judgeStart judgeLater judgeSound judgeBlock judgeBlocks unread verdict recordBytes putRecord headed padded summed framed numbersBytes putStart putRecords recordsBlock startBlock laterBlocks logBytesOver logS
 cases = record { four = four; start = start; wait8 = refl; empty = refl }
