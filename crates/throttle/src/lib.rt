@@ -170,7 +170,7 @@ pub extern "C" fn throttle_index(
 {
     let s = setting::load(setting);
     let h = load_head(&*head);
-    let code = call_refusal(
+    let refusal = call_refusal(
         narrow_limits(),
         s,
         seeds,
@@ -183,8 +183,8 @@ pub extern "C" fn throttle_index(
         bank,
         thread,
     );
-    if code != 0 {
-        return code;
+    if refusal != 0 {
+        return refusal;
     }
     let x = calls::index(s, h, counters, threads, tick, bank, thread);
     let after = x.head;
