@@ -10,7 +10,7 @@ use Rattle.log_format.specs.Verdict.{Running, over, memory, ended, judgeBlock, 
 use Rattle.judge.specs.declared.Report.{Report}
 use Rattle.judge.specs.Follow.{reportOf, Follows}
 use Rattle.checker_block.specs.Blocks.{JudgedBlock}
-use Rattle.checker_block.proofs.Steps.{not-both}
+use Rattle.checker_records.proofs.Steps.{not-both}
 use Rattle.checker.proofs.Logs.{unread-blocks, over-verdict, on-verdict}
 use Rattle.input.specs.declared.Filled.{Filled}
 use Rattle.input.specs.declared.Filled.the-variants.{Whole as IsWhole, End, Cut}

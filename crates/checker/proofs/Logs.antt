@@ -17,7 +17,7 @@ use Rattle.judge.specs.declared.Report.the-variants.{Refused, Agrees}
 use Rattle.checker_block.specs.declared.Reading.{Reading}
 use Rattle.judge.specs.Follow.{progressOf, reportOf, Follows}
 use Rattle.checker_block.specs.Blocks.{readSoFar, Ready, JudgedBlock}
-use Rattle.checker_block.proofs.Steps.{not-both}
+use Rattle.checker_records.proofs.Steps.{not-both}
 use Rattle.rules.specs.declared.Head.{Head}
 use Rattle.rules.specs.Policy.{limits01, narrow}
 

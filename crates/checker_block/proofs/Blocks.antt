@@ -18,7 +18,7 @@ use Rattle.judge.specs.declared.Report.the-variants.{Refused}
 use Rattle.judge.specs.declared.After.{After}
 use Rattle.judge.specs.Follow.{running, Follows, Judged}
 use Rattle.checker_block.specs.Blocks.{Ready, JudgedBlock}
-use Rattle.checker_block.proofs.Steps.{not-both}
+use Rattle.checker_records.proofs.Steps.{not-both}
 use Rattle.rules.specs.Policy.{narrow}
 
 -- ---- a block with records

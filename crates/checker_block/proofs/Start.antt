@@ -20,7 +20,7 @@ use Rattle.judge.specs.declared.Progress.{Progress}
 use Rattle.judge.specs.declared.Report.the-variants.{Refused}
 use Rattle.judge.specs.Follow.{running}
 use Rattle.checker_block.specs.Blocks.{JudgedBlock}
-use Rattle.checker_block.proofs.Steps.{not-both}
+use Rattle.checker_records.proofs.Steps.{not-both}
 
 -- one block is read, and no record
 abbrev pub oneBlock : Progress

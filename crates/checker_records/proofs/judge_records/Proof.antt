@@ -6,10 +6,10 @@ use lib.ListN.{length}
 use Rattle.rules.specs.State.{State, state}
 use Rattle.log_format.specs.Contents.{countIn}
 use Rattle.judge.specs.declared.Report.the-variants.{Agrees}
-use Rattle.checker_block.proofs.Records.{Going, going-none, going-more, going-over, going-all}
+use Rattle.checker_records.proofs.Records.{Going, going-none, going-more, going-over, going-all}
 use borrow.Author.Needs.{needs}
-use Rattle.checker_block.proofs.judge_records.Statement.{statement}
-use Rattle.checker_block.proofs.judge_records.Tie as tie
+use Rattle.checker_records.proofs.judge_records.Statement.{statement}
+use Rattle.checker_records.proofs.judge_records.Tie as tie
 
 abbrev Inv-loop : tie.InvT-loop
 Inv-loop s seeds counters₀ ticks₀ rows₀ threads₀ block n progress₀ head₀ k₀ counters ticks rows threads progress head k =

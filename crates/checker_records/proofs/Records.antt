@@ -16,7 +16,7 @@ use Rattle.judge.specs.declared.Progress.{Progress}
 use Rattle.judge.specs.declared.Report.{Report}
 use Rattle.judge.specs.declared.After.{After}
 use Rattle.judge.specs.Follow.{running, Follows, Judged}
-use Rattle.checker_block.proofs.Steps.{over-then, on-then}
+use Rattle.checker_records.proofs.Steps.{over-then, on-then}
 use Rattle.rules.specs.Policy.{narrow}
 
 module _ (s : Setting) (seeds block : List ℕ) (p : Progress) (n : ℕ) (start : State) where
