@@ -83,7 +83,7 @@ fn run() -> Report
     }
 }
 
-// All that the program writes: the text of the report of some log, from one buffer.
+// Writes the text of the report of some log, from one buffer. It is the only function here that writes.
 fn print(text: &[u8])
     requires { ⌜ ((bytes : List ℕ) × (now text ≡ textOf (reportOf (verdict narrow bytes)))) ⌝ }
 {
