@@ -11,7 +11,7 @@ use Rattle.rules.specs.Setting.{settingOf, settingRefusal}
 use Rattle.rules.specs.State.{State, fresh}
 use Rattle.rules.specs.Policy.{Policy}
 use Rattle.rules.specs.Calls.{Call, Reply, refused, answered, finished, shown, setupRefusal, replies, activations}
-use Rattle.rules.specs.Claims.{Regular}
+use Rattle.rules.specs.Claims.{UsedFlying}
 use Rattle.log_format.specs.declared.Entry.{Entry}
 use Rattle.log_format.specs.Bytes.{blockAt, blocksFrom}
 use Rattle.log_format.specs.Refusals.{sound}
@@ -160,11 +160,11 @@ WheneverAnywhere p =
 
 -- ---- all of it
 
--- For every policy; in any memory for every regular one; the encoder's, for limits whose greatest N has 32 bits.
+-- For every policy; in any memory for every one whose in flight depends on the used thread counters alone; the encoder's, for limits whose greatest N has 32 bits.
 pub record Theorems : Type 0 where
   pub onlyIf : (p : Policy) → OnlyIf p
   pub whenever : (p : Policy) → Whenever p
-  pub onlyIfAnywhere : (p : Policy) → Regular p → OnlyIfAnywhere p
-  pub wheneverAnywhere : (p : Policy) → Regular p → WheneverAnywhere p
+  pub onlyIfAnywhere : (p : Policy) → UsedFlying p → OnlyIfAnywhere p
+  pub wheneverAnywhere : (p : Policy) → UsedFlying p → WheneverAnywhere p
   pub writtenAgrees : (p : Policy) → p .limits .threshold < 2 ^ 32 → WrittenAgrees p
   pub callsWrite : (m : Limits) → m .threshold < 2 ^ 32 → CallsWrite m

@@ -11,7 +11,7 @@ use Rattle.rules.specs.State.{threadCell}
 use Rattle.rules.specs.Quota.{quotaDown}
 use Rattle.rules.specs.Policy.{inForce}
 use Rattle.rules.specs.Tested.{Accepted}
-use Rattle.rules.specs.Claims.{Regular}
+use Rattle.rules.specs.Claims.{Regular, UsedFlying}
 use Rattle.rules.proofs.Cells.{thread-in}
 use Rattle.rules.proofs.Accept.{scale-pos}
 
@@ -41,6 +41,8 @@ in-force-regular m =
       quotaMost = λ s seeds ok c. omega (arith, quota-most s c, ok .ranges .q-high);
       quotaFirst = λ s seeds ok. quota-full ok;
       noneFlying = λ s threads bank thread bh th z. z (threadCell s bank thread 2) (thread-in s bank thread 2 bh th (omega arith));
-      usedFlying = λ s threads other bank thread bh th same. same (threadCell s bank thread 2) (thread-in s bank thread 2 bh th (omega arith));
       ownFlying = λ s threads bank thread bh th. le-refl (getD threads (threadCell s bank thread 2) 0);
     }
+
+pub in-force-used-flying : (m : Limits) → UsedFlying (inForce m)
+in-force-used-flying m s threads other bank thread bh th same = same (threadCell s bank thread 2) (thread-in s bank thread 2 bh th (omega arith))

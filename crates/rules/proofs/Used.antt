@@ -24,7 +24,7 @@ use Rattle.rules.specs.Policy.{Policy}
 use Rattle.rules.specs.Decision.{passed, quotaRule, bankRule, rankRule, activeEstimate, rowRule, passesAt, waitTick, firstFailing, decide, activatedHead, activatedThreads, activated}
 use Rattle.rules.specs.Tested.{Long, Taken}
 use Rattle.rules.specs.Calls.{Call, request, done, index, refused, shown, Outcome, outcome, callRefusal, doneRefusal, callTick, callBank, callThread, refusalOf, unlessRefused, afterAnswer, requested, reported, indexShown, performed, step, replies, after}
-use Rattle.rules.specs.Claims.{Regular, SameUsed, withLimits, SameReplies}
+use Rattle.rules.specs.Claims.{UsedFlying, SameUsed, withLimits, SameReplies}
 use Rattle.rules.proofs.Tests.{holds, fails}
 use Rattle.rules.proofs.Cells.{thread-in}
 use Rattle.rules.proofs.Clearing.{clear-kept, clear-zero}
@@ -175,7 +175,7 @@ wait-used s a b u at bank row bh w =
         ap₂ (λ p q. p && q) (bank-used s (turned s a v) (turned s b v) x bank)
         (ap₂ (λ p q. p && q) (rank-used s (turned s a v) (turned s b v) x) (row-used s (turned s a v) (turned s b v) x at bank row bh w))
 
-module _ (p : Policy) (reg : Regular p) (m : Limits) (s : Setting) where
+module _ (p : Policy) (fly : UsedFlying p) (m : Limits) (s : Setting) where
   abbrev q : Policy
   q = withLimits p m
 
@@ -183,7 +183,7 @@ module _ (p : Policy) (reg : Regular p) (m : Limits) (s : Setting) where
   quota-used a b u bank thread bh th =
       let f = activeFilter s (a .head .last) in
       rw (u .head)
-      (ap₂ (λ x y. ltb x (p .quota s y)) (reg .usedFlying s (a .threads) (b .threads) bank thread bh th (u .threads)) (cell-used s a b u bank thread f bh th (omega arith)))
+      (ap₂ (λ x y. ltb x (p .quota s y)) (fly s (a .threads) (b .threads) bank thread bh th (u .threads)) (cell-used s a b u bank thread f bh th (omega arith)))
 
   decide-used : (a b : State) → SameUsed s a b → (at : ℕ → List ℕ) (bank thread row : ℕ) → bank < s .banks → thread < s .threads → ((f : ℕ) → Within (at f))
       → decide q s at b bank thread row ≡ decide p s at a bank thread row
@@ -272,7 +272,7 @@ next-turned s st t h = h
 abbrev Alike : Setting → Outcome → Outcome → Type 0
 Alike s o o′ = (o′ .reply ≡ o .reply) × SameUsed s (o .state) (o′ .state)
 
-module _ (p : Policy) (reg : Regular p) (m : Limits) (s : Setting) (seeds : List ℕ) (e : settingRefusal (p .limits) s seeds ≡ none) (e′ : settingRefusal m s seeds ≡ none) where
+module _ (p : Policy) (fly : UsedFlying p) (m : Limits) (s : Setting) (seeds : List ℕ) (e : settingRefusal (p .limits) s seeds ≡ none) (e′ : settingRefusal m s seeds ≡ none) where
   call-used : (a b : State) → SameUsed s a b → (t bank thread : ℕ) → callRefusal m s seeds b t bank thread ≡ callRefusal (p .limits) s seeds a t bank thread
   unfolding callRefusal
   call-used a b u t bank thread =
@@ -303,7 +303,7 @@ module _ (p : Policy) (reg : Regular p) (m : Limits) (s : Setting) (seeds : List
       → Alike s (performed p s (λ f. seeds) a c) (performed (withLimits p m) s (λ f. seeds) b c)
   unfolding requested reported indexShown
   performed-used a b u (request t bank thread row) k =
-      rw (decide-used p reg m s x y v at bank thread row (k .bank-in) (k .thread-in) w) (refl, go (decide p s at x bank thread row))
+      rw (decide-used p fly m s x y v at bank thread row (k .bank-in) (k .thread-in) w) (refl, go (decide p s at x bank thread row))
     where
       x : State
       x = turned s a t
@@ -350,5 +350,5 @@ module _ (p : Policy) (reg : Regular p) (m : Limits) (s : Setting) (seeds : List
       let rest = run-used (step p s seeds a c .state) (step (withLimits p m) s seeds b c .state) (x .1) cs in
       (ap₂ (λ y ys. y ∷ ys) (x .0) (rest .0), rest .1)
 
-pub same-replies : (p : Policy) → Regular p → SameReplies p
-same-replies p reg m s seeds e e′ a b u cs = run-used p reg m s seeds e e′ a b u cs
+pub same-replies : (p : Policy) → UsedFlying p → SameReplies p
+same-replies p fly m s seeds e e′ a b u cs = run-used p fly m s seeds e e′ a b u cs

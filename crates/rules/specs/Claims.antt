@@ -154,15 +154,13 @@ NeverWaitRow p =
     (s : Setting) (at : ℕ → List ℕ) (st : State) (bank thread row u : ℕ) → activeEstimate s at st bank < s .n → decide p s at st bank thread row ≢ Wait Row u
 
 -- What the claims about every policy ask of its quota and of what in flight means to it: a quota of at most 255, and of 1 or more while
--- the index counter is 0, under a setting that its limits accept; none in flight where the thread counters are 0, never fewer than the named
--- bank's own count, and no look past the used thread counters.
+-- the index counter is 0, under a setting that its limits accept; none in flight where the thread counters are 0, and never fewer than the
+-- named bank's own count.
 pub record Regular (p : Policy) : Type 0 where
   pub quotaMost : (s : Setting) (seeds : List ℕ) → Accepted (p .limits) s seeds → (c : ℕ) → p .quota s c ≤ 255
   pub quotaFirst : (s : Setting) (seeds : List ℕ) → Accepted (p .limits) s seeds → 1 ≤ p .quota s 0
   pub noneFlying : (s : Setting) (threads : List ℕ) (bank thread : ℕ) → bank < s .banks → thread < s .threads
       → ((i : ℕ) → i < threadsUsed s → getD threads i 0 ≡ 0) → p .inFlight s threads bank thread ≡ 0
-  pub usedFlying : (s : Setting) (threads other : List ℕ) (bank thread : ℕ) → bank < s .banks → thread < s .threads
-      → ((i : ℕ) → i < threadsUsed s → getD other i 0 ≡ getD threads i 0) → p .inFlight s other bank thread ≡ p .inFlight s threads bank thread
   pub ownFlying : (s : Setting) (threads : List ℕ) (bank thread : ℕ) → bank < s .banks → thread < s .threads
       → getD threads (threadCell s bank thread 2) 0 ≤ p .inFlight s threads bank thread
 
@@ -206,6 +204,12 @@ pub record SameRest (s : Setting) (a b : State) : Type 0 where
 pub record RestKept (p : Policy) : Type 0 where
   pub call : (s : Setting) (seeds : List ℕ) (st : State) (c : Call) → SameRest s st (step p s seeds st c .state)
   pub setup : (s : Setting) (seeds : List ℕ) (st : State) → SameRest s st (setup (p .limits) s seeds st .state)
+
+-- What in flight means to a policy depends on the used thread counters alone.
+abbrev pub UsedFlying : Policy → Type 0
+UsedFlying p =
+    (s : Setting) (threads other : List ℕ) (bank thread : ℕ) → bank < s .banks → thread < s .threads
+    → ((i : ℕ) → i < threadsUsed s → getD other i 0 ≡ getD threads i 0) → p .inFlight s other bank thread ≡ p .inFlight s threads bank thread
 
 -- the policy with other limits
 abbrev pub withLimits : Policy → Limits → Policy
@@ -268,9 +272,10 @@ pub record Theorems : Type 0 where
   pub belowThreshold : BelowThreshold
   pub neverWaitRow : (p : Policy) → NeverWaitRow p
   pub restKept : (p : Policy) → RestKept p
-  pub sameReplies : (p : Policy) → Regular p → SameReplies p
+  pub sameReplies : (p : Policy) → UsedFlying p → SameReplies p
   pub neverMemory : (p : Policy) → NeverMemory p
   pub firstOpened : (p : Policy) → Regular p → FirstOpened p
   pub stepFits : (p : Policy) → Regular p → StepFits p
   pub runFits : (p : Policy) → Regular p → RunFits p
   pub inForceRegular : (m : Limits) → Regular (inForce m)
+  pub inForceUsedFlying : (m : Limits) → UsedFlying (inForce m)
