@@ -69,5 +69,6 @@ pub fn are_in_range(s: rules::Setting) -> bool {
     if !is_within(4, s.l, 16777216) {
         return false;
     }
-    is_within(5, s.n, 32768)
+    let limits = setting::narrow_limits();
+    is_within(5, s.n, limits.threshold)
 }

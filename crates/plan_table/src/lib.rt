@@ -1,6 +1,7 @@
 // The table that the program plan_settings prints: a line for each threshold, and the lines below it. What it prints of a threshold is
 // what the proved functions of the crate `plan` answer.
 ghost use Prim.Native.Nat.{_≤_};
+ghost use Rattle.rules.specs.Policy.{limits01};
 use crate::text::print;
 use crate::text::print_cell;
 use crate::text::print_nanoseconds;
@@ -25,6 +26,13 @@ fn print_head(s: rules::Setting) {
     );
 }
 
+fn print_history_limit() {
+    let limits = setting::narrow_limits();
+    print(b": the smallest delay with B at most L needs a history of more than ");
+    print_number(limits.history);
+    print(b" places\n");
+}
+
 // Why no delay is accepted, by the number of the refusal.
 fn print_reason(refusal: u32) {
     print(b"refusal ");
@@ -33,9 +41,7 @@ fn print_reason(refusal: u32) {
         1 => print(b": a field is out of its range\n"),
         2 => print(b": W - 1 is below 2 x N x tRC, two bursts of N do not fit in the window\n"),
         3 => print(b": the smallest delay with B at most L is below tRC or above W / 2\n"),
-        4 => print(
-            b": the smallest delay with B at most L needs a history of more than 4096 places\n",
-        ),
+        4 => print_history_limit(),
         _ => print(b": B is above L with every delay from 1 to 2^29\n"),
     }
 }
@@ -85,7 +91,7 @@ pub fn print_one(s: rules::Setting) {
 
 // The powers of two below the last threshold that has a delay.
 fn print_powers(s: rules::Setting, last: u64)
-    requires { ⌜ last ≤ 32768 ⌝ }
+    requires { ⌜ last ≤ limits01 .threshold ⌝ }
 {
     let mut n: u64 = 1;
     while n < last {
@@ -96,7 +102,7 @@ fn print_powers(s: rules::Setting, last: u64)
 
 // The last threshold that has a delay.
 fn last_threshold(s: rules::Setting) -> u64
-    ensures { λ r. ⌜ r ≤ 32768 ⌝ }
+    ensures { λ r. ⌜ r ≤ limits01 .threshold ⌝ }
 {
     plan::last_threshold(setting::narrow_limits(), s)
 }
@@ -109,7 +115,8 @@ pub fn print_table(s: rules::Setting) {
     if last > 0 {
         print_threshold(s, last);
     }
-    if last < 32768 {
+    let limits = setting::narrow_limits();
+    if last < limits.threshold {
         print_threshold(s, last + 1);
         print(b"             and no larger N has one.\n");
     }
