@@ -1,8 +1,10 @@
 -- What an exported call leaves, refused or not.
 use Prim.Native.Nat.{ℕ, _-_}
-use mathlib.Core.Path.{_≡_, sym, ap, _∙_}
+use mathlib.Core.Path.{_≡_, sym, ap, ap₂, _∙_}
 use mathlib.Core.Logic.{_≢_}
 use mathlib.Core.List.{List, [], _∷_}
+use lib.ListN.{length}
+use Rattle.rules.specs.declared.Limits.{Limits}
 use Rattle.rules.specs.declared.Setting.{Setting}
 use Rattle.rules.specs.declared.Head.{Head}
 use Rattle.rules.specs.declared.Answer.{Answer}
@@ -15,6 +17,8 @@ use Rattle.rules.specs.Quota.{indexCounter}
 use Rattle.rules.specs.Policy.{limits01, narrow}
 use Rattle.rules.specs.Calls.{request, done, index, answered, finished, Outcome, outcome, oneLess, setup, setupRefusal, callRefusal, doneRefusal, unlessRefused, requested, reported, indexShown, step}
 use Rattle.rules.proofs.Step.{unless-taken, unless-refused}
+use Rattle.refusal.specs.Tests.{callTest}
+use Rattle.refusal.proofs.Refusals.{call-test}
 use Rattle.interface.specs.Left.{left, found, leaves}
 
 -- a refused call gives its number and leaves all as it was
@@ -30,6 +34,16 @@ left-refused r o code out words counters ticks rows threads e h =
 module _ (s : Setting) (seeds words counters ticks rows threads : List ℕ) where
   abbrev before : State
   before = found words counters ticks rows threads
+
+  -- the number that the tests of a request or an index reading give, from what was loaded, is that of the rules' refusal
+  pub call-code : (m : Limits) (x : Setting) (h : Head) (tick bank thread code : ℕ)
+      → code ≡ refusalNumber (callTest m x seeds h (length counters) ticks (length rows) (length threads) tick bank thread)
+      → m ≡ limits01 → x ≡ s → h ≡ headOf words → code ≡ refusalNumber (callRefusal limits01 s seeds before tick bank thread)
+  call-code m x h tick bank thread code e em ex eh =
+      e
+      ∙ ap (λ n. refusalNumber (callTest n x seeds h (length counters) ticks (length rows) (length threads) tick bank thread)) em
+      ∙ ap₂ (λ y g. refusalNumber (callTest limits01 y seeds g (length counters) ticks (length rows) (length threads) tick bank thread)) ex eh
+      ∙ ap refusalNumber (sym (call-test limits01 s seeds before tick bank thread))
 
   -- set-up that is not refused
   pub left-setup : refusalNumber (setupRefusal limits01 s seeds before) ≡ 0 → (z : State) → z ≡ fresh s before
