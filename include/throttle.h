@@ -24,6 +24,8 @@
 #ifndef THROTTLE_H
 #define THROTTLE_H
 
+#include "throttle_version.h"
+
 #include <stddef.h>
 #include <stdint.h>
 

@@ -10,6 +10,8 @@
 #ifndef THROTTLE_LOG_H
 #define THROTTLE_LOG_H
 
+#include "throttle_version.h"
+
 #include <stddef.h>
 #include <stdint.h>
 

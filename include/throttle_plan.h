@@ -6,6 +6,8 @@
 #ifndef THROTTLE_PLAN_H
 #define THROTTLE_PLAN_H
 
+#include "throttle_version.h"
+
 #include <stdint.h>
 
 #ifdef __cplusplus
