@@ -1,34 +1,66 @@
 // The H3 hash of a row: its four places in a counting Bloom filter, by four functions of 16 seeds each.
+// The sixteen seeds of a function are four words of four lanes, 16 bits each, so that a function takes four loads and not sixteen.
 ghost use mathlib.Core.Path.{_≡_};
-ghost use mathlib.Core.Bool.{true, cond};
-ghost use lib.Dec.{eqb};
-ghost use Prim.Native.Nat.{_<_, _%_};
+ghost use mathlib.Core.Bool.{true};
+ghost use Prim.Native.Nat.{_+_, _<_, _≤_, _%_};
+ghost use lib.ListN.{length};
 ghost use Rattle.rules.specs.Setting.{seedsInRange};
 ghost use Rattle.rules.specs.Hash.{hash, places};
 ghost use Rattle.rules.specs.Filter.{Within};
+ghost use Rattle.hash.specs.Lanes.{joined, fourSeeds, mask, chosen, folded};
 
-// The seed, where the lowest bit of the row is set; else 0. It is a product, so that no branch depends on the row.
-fn chosen(row: u16, seed: u16) -> u16
-    ensures { λ r. ⌜ r ≡ cond (eqb (row % 2) 1) seed 0 ⌝ }
+// Four numbers in one word, the first in the lowest lane.
+fn join(a: u16, b: u16, c: u16, d: u16) -> u64
+    ensures { λ r. ⌜ r ≡ joined a b c d ⌝ }
 {
-    row % 2 * seed
+    a as u64 + 65536 * (b as u64) + 4294967296 * (c as u64) + 281474976710656 * (d as u64)
 }
 
-// Function f of a row: the exclusive or of its seeds i for which bit i of the row is set. Bit i is the lowest of the row halved i times.
+// The four seeds from place i on.
+fn four(seeds: &[u16], i: usize) -> u64
+    requires { ⌜ i + 4 ≤ length (now seeds) ⌝ }
+    ensures { λ r. ⌜ r ≡ fourSeeds (now (seeds .entry)) i ⌝ }
+{
+    join(seeds[i], seeds[i + 1], seeds[i + 2], seeds[i + 3])
+}
+
+// For each of the four lowest bits a lane, all ones where the bit is set, else 0. The first factor has its ones 15 places apart:
+// bit k of the four comes to place 16k, the lowest of lane k. The second word keeps these four places, and 65535 fills each lane.
+fn mask(bits: u64) -> u64
+    ensures { λ r. ⌜ r ≡ mask bits ⌝ }
+{
+    (bits % 16 * 35185445863425 & 281479271743489) * 65535
+}
+
+// Of the four seeds from place i on those whose bit, among the four lowest, is set; 0 in the lanes of the others.
+fn chosen(seeds: &[u16], i: usize, bits: u64) -> u64
+    requires { ⌜ i + 4 ≤ length (now seeds) ⌝ }
+    ensures { λ r. ⌜ r ≡ chosen (now (seeds .entry)) i bits ⌝ }
+{
+    four(seeds, i) & mask(bits)
+}
+
+// The exclusive or of the four lanes, its ten lowest bits.
+fn fold(x: u64) -> usize
+    ensures { λ r. ⌜ r ≡ folded x % 1024 ⌝ }
+{
+    let y = x ^ x / 4294967296;
+    let z = y ^ y / 65536;
+    (z % 1024) as usize
+}
+
+// Function f of a row: the exclusive or of its seeds i for which bit i of the row is set, four seeds at a time.
 fn hash(seeds: &[u16], f: usize, row: u16) -> usize
     requires { ⌜ (seedsInRange (now seeds) ≡ true) × (f < 4) ⌝ }
     ensures { λ r. ⌜ r ≡ hash (now (seeds .entry)) f row ⌝ }
 {
     let base = 16 * f;
-    let mut h: u16 = 0;
-    let mut left = row;
-    let mut i: usize = 0;
-    while i < 16 {
-        h = h ^ chosen(left, seeds[base + i]);
-        left = left / 2;
-        i += 1;
-    }
-    h as usize
+    let bits = row as u64;
+    let a = chosen(seeds, base, bits);
+    let b = chosen(seeds, base + 4, bits / 16);
+    let c = chosen(seeds, base + 8, bits / 256);
+    let d = chosen(seeds, base + 12, bits / 4096);
+    fold(a ^ b ^ c ^ d)
 }
 
 // The four places of a row in each filter, function by function.

@@ -1,16 +1,20 @@
--- `hash::chosen` meets its contract: a product with the lowest bit is the seed or 0.
-use native.Mathlib.Omega.{arith}
-use Rattle.hash.proofs.Laws.{bit-times}
+-- `hash::chosen` meets its contract.
+use mathlib.Core.Path.{ap₂}
+use lib.Bits.{bitAnd}
+use Rattle.hash.specs.Lanes.{chosen}
+use borrow.Author.Needs.{needs}
 use Rattle.hash.proofs.chosen.Statement.{statement}
 use Rattle.hash.proofs.chosen.Tie as tie
 
-mul-result : tie.Need-mul-result
-mul-result c =
-    let b = bit-times (c .args .row) (c .args .seed) in
-    omega arith
+four-requires : tie.Need-four-requires
+four-requires c κs = search needs
+
+mask-requires : tie.Need-mask-requires
+mask-requires c κs = search needs
 
 returns : tie.Need-returns
-returns c = bit-times (c .args .row) (c .args .seed) .0
+unfolding chosen
+returns c = ap₂ bitAnd (c .before .four .ensures) (c .mask .ensures)
 
 pub chosen-spec : {M : Type 1} → statement M
-chosen-spec = tie.close (tie.spec mul-result returns)
+chosen-spec = tie.close (tie.spec four-requires mask-requires returns)

@@ -1,75 +1,63 @@
--- `hash::hash` meets its contract. The loop has gathered the seeds of the i lowest bits, and left is the row halved i times.
-use Prim.Native.Nat.{_-_, _/_, _≤_, _^_}
-use mathlib.Core.Path.{_≡_, refl, sym, ap, _∙_}
+-- `hash::hash` meets its contract: the four words of chosen seeds have all sixteen bits.
+use Prim.Native.Nat.{ℕ}
+use mathlib.Core.Path.{_≡_}
 use native.Mathlib.Omega.{arith}
-use native.Mathlib.Nat.{div-one}
-use Rattle.rules.specs.Hash.{hashTo}
-use Rattle.hash.proofs.Laws.{halved, hash-more, hash-all, hash-small, seeds-64}
+use lib.ListN.{length}
+use Rattle.hash.proofs.Laws.{seeds-64, hash-is}
 use borrow.Author.Needs.{needs}
 use Rattle.hash.proofs.hash.Statement.{statement}
 use Rattle.hash.proofs.hash.Tie as tie
 
-abbrev Inv-loop : tie.InvT-loop
-Inv-loop seeds f row base h₀ left₀ i₀ h left i = (i ≤ 16) × (left ≡ row / 2 ^ i) × (h ≡ hashTo seeds f row i)
+-- there are 64 seeds
+long : (c : tie.After-shared-slice-known) → length (c .before .args .seeds .now) ≡ 64
+long c = seeds-64 (c .before .args .seeds .now) (c .before .pre .0)
 
-abbrev μ-loop : tie.MeasureT-loop
-μ-loop seeds f row base h₀ left₀ i₀ h left i = 16 - i
-
-mul-base : tie.Need-mul-base Inv-loop μ-loop
+mul-base : tie.Need-mul-base
 mul-base c = search needs
 
-loop-holds : tie.Need-loop-holds Inv-loop μ-loop
-loop-holds c = (omega arith, sym (div-one (c .before .args .row)), refl)
+chosen-requires : tie.Need-chosen-requires
+chosen-requires c κs = omega (arith, long c)
 
-add-chosen : tie.Need-add-chosen Inv-loop μ-loop
+add-chosen : tie.Need-add-chosen
 add-chosen c = search needs
 
-mul-chosen : tie.Need-mul-chosen Inv-loop μ-loop
-mul-chosen c = search needs
+chosen-requires-2 : tie.Need-chosen-requires-2
+chosen-requires-2 c κs = omega (arith, long (c .before))
 
-shared-slice-read-chosen : tie.Need-shared-slice-read-chosen Inv-loop μ-loop
-shared-slice-read-chosen c = omega (arith, seeds-64 (c .before .before .before .before .args .seeds .now) (c .before .before .before .before .pre .0))
+add-chosen-2 : tie.Need-add-chosen-2
+add-chosen-2 c = search needs
 
-chosen-requires : tie.Need-chosen-requires Inv-loop μ-loop
-chosen-requires c κs = search needs
+chosen-requires-3 : tie.Need-chosen-requires-3
+chosen-requires-3 c κs = omega (arith, long (c .before .before))
 
-add-i : tie.Need-add-i Inv-loop μ-loop
-add-i c = search needs
+add-chosen-3 : tie.Need-add-chosen-3
+add-chosen-3 c = search needs
 
-loop-less : tie.Need-loop-less Inv-loop μ-loop
-loop-less c = search needs
+chosen-requires-4 : tie.Need-chosen-requires-4
+chosen-requires-4 c κs = omega (arith, long (c .before .before .before))
 
-loop-again : tie.Need-loop-again Inv-loop μ-loop
-loop-again c =
-    let a = c .before .before .before .before .before .args in
-    let l = c .before .before .before .loop in (
-      omega arith,
-      ap (λ x. x / 2) (l .inv .1) ∙ halved (a .row) (l .i),
-      hash-more (a .seeds .now) (a .f) (a .row) (l .i) (l .left) (l .h) (c .chosen .result) (l .inv .1) (l .inv .2) (c .chosen .ensures),
-    )
+fold-requires : tie.Need-fold-requires
+fold-requires c κs = search needs
 
-cast-result : tie.Need-cast-result Inv-loop μ-loop
-cast-result c =
-    let s = hash-small (c .before .before .before .args .seeds .now) (c .before .before .before .args .f) (c .before .before .before .args .row) (c .before .loop .i) (c .before .loop .h) (c .before .before .before .pre .0) (c .before .loop .inv .2) in
-    omega arith
-
-returns : tie.Need-returns Inv-loop μ-loop
-returns c = hash-all (c .before .before .before .args .seeds .now) (c .before .before .before .args .f) (c .before .before .before .args .row) (c .before .loop .i) (c .before .loop .h) (omega arith) (c .before .loop .inv .2)
+returns : tie.Need-returns
+returns c =
+    let w = c .before .before .before .before in
+    let start = w .before .before in
+    let a = start .args in
+    hash-is (a .seeds .now) (a .f) (a .row) (w .chosen .result) (c .before .before .before .chosen2 .result) (c .before .before .chosen3 .result) (c .before .chosen4 .result) (c .fold .result)
+    (start .pre .0) (w .chosen .ensures) (c .before .before .before .chosen2 .ensures) (c .before .before .chosen3 .ensures) (c .before .chosen4 .ensures) (c .fold .ensures)
 
 pub hash-spec : {M : Type 1} → statement M
 hash-spec =
     tie.close
     (tie.spec
-    Inv-loop
-    μ-loop
     mul-base
-    loop-holds
-    add-chosen
-    mul-chosen
-    shared-slice-read-chosen
     chosen-requires
-    add-i
-    loop-less
-    loop-again
-    cast-result
+    add-chosen
+    chosen-requires-2
+    add-chosen-2
+    chosen-requires-3
+    add-chosen-3
+    chosen-requires-4
+    fold-requires
     returns)

@@ -1,0 +1,31 @@
+-- Words of four lanes, 16 bits each: what the steps of the hash compute. That their result is the rules' hash is a law (`hash-is`).
+use mathlib.Core.List.{List}
+use mathlib.Core.Bool.{cond}
+use Prim.Native.Nat.{ℕ, _+_, _*_, _/_, _%_, _^_}
+use lib.Bits.{bitAnd, bitXor}
+use lib.ListN.{getD}
+use Rattle.rules.specs.Hash.{bitSet}
+
+-- four numbers in one word, the first in the lowest lane
+abbrev pub joined : ℕ → ℕ → ℕ → ℕ → ℕ
+joined a b c d = a + 65536 * b + 4294967296 * c + 281474976710656 * d
+
+-- the lane of a word that starts at a bit
+unfoldable pub lane : ℕ → ℕ → ℕ
+lane w bit = w / 2 ^ bit % 2 ^ 16
+
+-- the four seeds from place i on
+abbrev pub fourSeeds : List ℕ → ℕ → ℕ
+fourSeeds seeds i = joined (getD seeds i 0) (getD seeds (i + 1) 0) (getD seeds (i + 2) 0) (getD seeds (i + 3) 0)
+
+-- the lanes of the four lowest bits, all ones where the bit is set
+unfoldable pub mask : ℕ → ℕ
+mask bits = joined (cond (bitSet bits 0) 65535 0) (cond (bitSet bits 1) 65535 0) (cond (bitSet bits 2) 65535 0) (cond (bitSet bits 3) 65535 0)
+
+-- the four seeds from place i on, masked by four bits
+unfoldable pub chosen : List ℕ → ℕ → ℕ → ℕ
+chosen seeds i bits = bitAnd (fourSeeds seeds i) (mask bits)
+
+-- the exclusive or of a word's four lanes
+unfoldable pub folded : ℕ → ℕ
+folded w = bitXor (bitXor (bitXor (lane w 0) (lane w 16)) (lane w 32)) (lane w 48)
