@@ -1,7 +1,7 @@
 -- Laws of words of four lanes: lane by lane, and of the exclusive or of the lanes.
-use mathlib.Core.Path.{_≡_, refl, sym, ap, _∙_}
+use mathlib.Core.Path.{_≡_, sym, ap, _∙_}
 use mathlib.Core.Bool.{Bool, true, false, cond}
-use Prim.Native.Nat.{ℕ, zero, suc, _+_, _*_, _/_, _%_, _^_, _≤_, _<_}
+use Prim.Native.Nat.{ℕ, _+_, _/_, _%_, _^_, _<_}
 use native.Mathlib.Nat.{mod-eq-of-lt, div-div-eq-div-mul}
 use native.Mathlib.Omega.{arith}
 use lib.Pow.{pow-add}
@@ -18,18 +18,19 @@ lane-and : (a b k : ℕ) → lane (bitAnd a b) k ≡ bitAnd (lane a k) (lane b k
 unfolding lane
 lane-and a b k = ap (λ x. x % 2 ^ 16) (and-shr a b k) ∙ and-mod (a / 2 ^ k) (b / 2 ^ k) 16
 
--- the lanes of four numbers of 16 bits
-pub record Lanes (w a b c d : ℕ) : Type 0 where
-  pub first : lane w 0 ≡ a
-  pub second : lane w 16 ≡ b
-  pub third : lane w 32 ≡ c
-  pub fourth : lane w 48 ≡ d
+-- a word and its four lanes
+record Lanes (w a b c d : ℕ) : Type 0 where
+  first : lane w 0 ≡ a
+  second : lane w 16 ≡ b
+  third : lane w 32 ≡ c
+  fourth : lane w 48 ≡ d
 
-pub lanes : (a b c d : ℕ) → a < 65536 → b < 65536 → c < 65536 → d < 65536 → Lanes (joined a b c d) a b c d
+-- the lanes of four numbers of 16 bits
+lanes : (a b c d : ℕ) → a < 65536 → b < 65536 → c < 65536 → d < 65536 → Lanes (joined a b c d) a b c d
 unfolding lane
 lanes a b c d ha hb hc hd = record { first = omega arith; second = omega arith; third = omega arith; fourth = omega arith }
 
--- a lane all ones or 0
+-- a lane with all ones or 0
 full-lt : (q : Bool) → cond q 65535 0 < 65536
 full-lt true = omega arith
 full-lt false = omega arith
@@ -38,7 +39,7 @@ and-full : (q : Bool) (a : ℕ) → a < 65536 → bitAnd a (cond q 65535 0) ≡ 
 and-full true a h = and-mask a 16 ∙ mod-eq-of-lt h
 and-full false a h = and-zero-r a
 
--- the lanes of a word, masked, and their exclusive or
+-- the exclusive or of the lanes of a masked word
 pub fold-masked : (a b c d : ℕ) (p q r s : Bool) → a < 65536 → b < 65536 → c < 65536 → d < 65536
     → folded (bitAnd (joined a b c d) (joined (cond p 65535 0) (cond q 65535 0) (cond r 65535 0) (cond s 65535 0)))
     ≡ bitXor (bitXor (bitXor (cond p a 0) (cond q b 0)) (cond r c 0)) (cond s d 0)
@@ -67,7 +68,7 @@ fold-masked a b c d p q r s ha hb hc hd =
       and-full s d hd,
     )
 
--- of the exclusive or of two words
+-- the exclusive or of the lanes, for the exclusive or of two words
 pub fold-xor : (a b : ℕ) → folded (bitXor a b) ≡ bitXor (folded a) (folded b)
 unfolding folded
 fold-xor a b =

@@ -1,21 +1,20 @@
 -- Laws of the hash: four bits more by a word of seeds and a mask, all sixteen, and the four places.
 use mathlib.Core.Path.{_≡_, refl, sym, ap, _∙_, subst}
 use mathlib.Core.List.{List, [], _∷_}
-use mathlib.Core.Bool.{Bool, true, cond}
-use Prim.Native.Nat.{ℕ, zero, suc, _+_, _*_, _/_, _%_, _^_, _≤_, _<_}
+use mathlib.Core.Bool.{true, cond}
+use Prim.Native.Nat.{ℕ, suc, _+_, _*_, _/_, _%_, _^_, _<_}
 use native.Mathlib.Nat.{div-div-eq-div-mul, mod-eq-of-lt, div-one}
 use native.Mathlib.Omega.{arith}
-use lib.Dec.{T, eqb, eqb→eq}
+use lib.Dec.{eqb}
 use lib.Pow.{pow-add}
-use lib.Bits.{bitAnd, bitXor}
+use lib.Bits.{bitXor}
 use lib.ListN.{length, getD}
-use Rattle.rules.specs.Cells.{every}
 use Rattle.rules.specs.Setting.{seedsInRange}
 use Rattle.rules.specs.Hash.{bitSet, hashTo, hash, places}
 use Rattle.rules.specs.Filter.{Within}
-use Rattle.rules.proofs.Tests.{holds, every-at}
+use Rattle.rules.proofs.Tests.{holds}
 use Rattle.rules.proofs.Places.{seeds-long, seed-small, hashTo-lt, places-within}
-use Rattle.hash.specs.Lanes.{mask, chosen, folded}
+use Rattle.hash.specs.Lanes.{spread, chosen, folded}
 use Rattle.hash.proofs.Xor.{xor-four}
 use Rattle.hash.proofs.Lanes.{fold-masked, fold-xor}
 
@@ -26,13 +25,13 @@ seeds-64 seeds ok = seeds-long seeds (holds (seedsInRange seeds) ok)
 bit-above : (row i k j : ℕ) → i + k ≡ j → bitSet (row / 2 ^ i) k ≡ bitSet row j
 bit-above row i k j e = ap (λ x. eqb (x % 2) 1) (div-div-eq-div-mul row (2 ^ i) (2 ^ k) ∙ ap (λ x. row / x) (sym (pow-add 2 i k) ∙ ap (λ x. 2 ^ x) e))
 
--- four bits more, by four seeds and a mask
+-- four bits more, by four seeds and their mask
 four-more : (seeds : List ℕ) (f row i at bits h : ℕ) → seedsInRange seeds ≡ true → at ≡ 16 * f + i → bits ≡ row / 2 ^ i → h ≡ hashTo seeds f row i
     → bitXor h (folded (chosen seeds at bits)) ≡ hashTo seeds f row (suc (suc (suc (suc i))))
-unfolding chosen mask
+unfolding chosen spread
 four-more seeds f row i at bits h ok ea eb eh =
     let small : (k : ℕ) → getD seeds k 0 < 65536 = λ k. omega (arith, seed-small seeds (holds (seedsInRange seeds) ok) k) in
-    let chosen : ℕ → ℕ = λ j. cond (bitSet row j) (getD seeds (16 * f + j) 0) 0 in
+    let one : ℕ → ℕ = λ j. cond (bitSet row j) (getD seeds (16 * f + j) 0) 0 in
     let e1 : at + 1 ≡ 16 * f + suc i = omega arith in
     let e2 : at + 2 ≡ 16 * f + suc (suc i) = omega arith in
     let e3 : at + 3 ≡ 16 * f + suc (suc (suc i)) = omega arith in
@@ -49,7 +48,7 @@ four-more seeds f row i at bits h ok ea eb eh =
       ea,
       eh,
     )
-    (xor-four (hashTo seeds f row i) (chosen i) (chosen (suc i)) (chosen (suc (suc i))) (chosen (suc (suc (suc i)))))
+    (xor-four (hashTo seeds f row i) (one i) (one (suc i)) (one (suc (suc i))) (one (suc (suc (suc i)))))
 
 -- all sixteen bits
 pub hash-is : (seeds : List ℕ) (f row a b c d r : ℕ) → seedsInRange seeds ≡ true → a ≡ chosen seeds (16 * f) row → b ≡ chosen seeds (16 * f + 4) (row / 16)
@@ -62,26 +61,6 @@ hash-is seeds f row a b c d r ok ea eb ec ed er =
     let h16 : bitXor (bitXor (bitXor (folded a) (folded b)) (folded c)) (folded d) ≡ hashTo seeds f row 16 = rw ed (four-more seeds f row 12 (16 * f + 12) (row / 4096) (bitXor (bitXor (folded a) (folded b)) (folded c)) ok refl refl h12) in
     rw (er, fold-xor (bitXor (bitXor a b) c) d, fold-xor (bitXor a b) c, fold-xor a b, h16)
     (mod-eq-of-lt (hashTo-lt seeds (holds (seedsInRange seeds) ok) f row 16))
-
--- the product with ones 15 places apart, for each four bits
-spread : ℕ → Bool
-spread bits = eqb (bitAnd (bits * 35185445863425) 281479271743489 * 65535) (mask bits)
-
-spread-all : T (every 16 spread)
-unfolding spread mask
-spread-all = tt
-
--- the four lowest bits decide
-low-bits : (n : ℕ) → (n % 16 / 2 ^ 0 % 2 ≡ n / 2 ^ 0 % 2) × (n % 16 / 2 ^ 1 % 2 ≡ n / 2 ^ 1 % 2) × (n % 16 / 2 ^ 2 % 2 ≡ n / 2 ^ 2 % 2) × (n % 16 / 2 ^ 3 % 2 ≡ n / 2 ^ 3 % 2)
-low-bits n = (omega arith, omega arith, omega arith, omega arith)
-
-mask-four : (bits : ℕ) → mask (bits % 16) ≡ mask bits
-unfolding mask
-mask-four bits = let b = low-bits bits in rw (b .0, b .1, b .2, b .3)
-
-pub mask-is : (bits : ℕ) → bitAnd (bits % 16 * 35185445863425) 281479271743489 * 65535 ≡ mask bits
-unfolding spread
-mask-is bits = eqb→eq _ (mask (bits % 16)) (every-at 16 spread spread-all (bits % 16) (omega arith)) ∙ mask-four bits
 
 -- the four hashes are the row's places
 pub four-places : (seeds : List ℕ) (row a b c d : ℕ) → a ≡ hash seeds 0 row → b ≡ hash seeds 1 row → c ≡ hash seeds 2 row

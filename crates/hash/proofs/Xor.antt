@@ -1,9 +1,9 @@
--- Exclusive or is associative, so that four of them can be regrouped (its other laws are in lib.Bits).
+-- Exclusive or is associative, so that its operands can be regrouped (its other laws are in lib.Bits).
 use Prim.Native.Nat.{ℕ, zero, suc, _/_, _%_, _<_}
 use mathlib.Core.Path.{_≡_, refl, sym, ap, _∙_}
 use native.Mathlib.Omega.{arith}
 use lib.Arith.{bin-ind}
-use lib.Bits.{bitXor, differ, xor-step, xor-shr, xor-mod, xor-comm}
+use lib.Bits.{bitXor, differ, xor-step, xor-shr, xor-comm}
 
 -- of two binary digits
 differ-assoc : (x y z : ℕ) → x < 2 → y < 2 → z < 2 → differ (differ x y) z ≡ differ x (differ y z)
@@ -44,7 +44,7 @@ xor-swap a b c d =
     ∙ ap (bitXor a) (sym (xor-assoc b c d) ∙ ap (λ x. bitXor x d) (xor-comm b c) ∙ xor-assoc c b d)
     ∙ sym (xor-assoc a c (bitXor b d))
 
--- three added one by one to a fourth, or together
+-- four at once, or one by one
 pub xor-four : (h a b c d : ℕ) → bitXor h (bitXor (bitXor (bitXor a b) c) d) ≡ bitXor (bitXor (bitXor (bitXor h a) b) c) d
 xor-four h a b c d =
     sym (xor-assoc h (bitXor (bitXor a b) c) d)

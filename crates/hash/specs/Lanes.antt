@@ -18,13 +18,13 @@ lane w bit = w / 2 ^ bit % 2 ^ 16
 abbrev pub fourSeeds : List ℕ → ℕ → ℕ
 fourSeeds seeds i = joined (getD seeds i 0) (getD seeds (i + 1) 0) (getD seeds (i + 2) 0) (getD seeds (i + 3) 0)
 
--- the lanes of the four lowest bits, all ones where the bit is set
-unfoldable pub mask : ℕ → ℕ
-mask bits = joined (cond (bitSet bits 0) 65535 0) (cond (bitSet bits 1) 65535 0) (cond (bitSet bits 2) 65535 0) (cond (bitSet bits 3) 65535 0)
+-- x in the lane of each of the four lowest bits that is set, 0 in the other lanes
+unfoldable pub spread : ℕ → ℕ → ℕ
+spread x bits = joined (cond (bitSet bits 0) x 0) (cond (bitSet bits 1) x 0) (cond (bitSet bits 2) x 0) (cond (bitSet bits 3) x 0)
 
--- the four seeds from place i on, masked by four bits
+-- the four seeds from place i on, masked by the four lowest bits
 unfoldable pub chosen : List ℕ → ℕ → ℕ → ℕ
-chosen seeds i bits = bitAnd (fourSeeds seeds i) (mask bits)
+chosen seeds i bits = bitAnd (fourSeeds seeds i) (spread 65535 bits)
 
 -- the exclusive or of a word's four lanes
 unfoldable pub folded : ℕ → ℕ

@@ -1,5 +1,6 @@
 // The H3 hash of a row: its four places in a counting Bloom filter, by four functions of 16 seeds each.
-// The sixteen seeds of a function are four words of four lanes, 16 bits each, so that a function takes four loads and not sixteen.
+// The sixteen seeds of a function are four words of four lanes, 16 bits each: a function is four loads, masks and exclusive ors, and
+// not sixteen, and no branch depends on the row.
 ghost use mathlib.Core.Path.{_≡_};
 ghost use mathlib.Core.Bool.{true};
 ghost use Prim.Native.Nat.{_+_, _<_, _≤_, _%_};
@@ -7,7 +8,7 @@ ghost use lib.ListN.{length};
 ghost use Rattle.rules.specs.Setting.{seedsInRange};
 ghost use Rattle.rules.specs.Hash.{hash, places};
 ghost use Rattle.rules.specs.Filter.{Within};
-ghost use Rattle.hash.specs.Lanes.{joined, fourSeeds, mask, chosen, folded};
+ghost use Rattle.hash.specs.Lanes.{joined, fourSeeds, spread, chosen, folded};
 
 // Four numbers in one word, the first in the lowest lane.
 fn join(a: u16, b: u16, c: u16, d: u16) -> u64
@@ -24,12 +25,19 @@ fn four(seeds: &[u16], i: usize) -> u64
     join(seeds[i], seeds[i + 1], seeds[i + 2], seeds[i + 3])
 }
 
-// For each of the four lowest bits a lane, all ones where the bit is set, else 0. The first factor has its ones 15 places apart:
-// bit k of the four comes to place 16k, the lowest of lane k. The second word keeps these four places, and 65535 fills each lane.
-fn mask(bits: u64) -> u64
-    ensures { λ r. ⌜ r ≡ mask bits ⌝ }
+// The four lowest bits, each at the lowest place of its lane. The factor is 1 + 2^15 + 2^30 + 2^45: it puts bit k at place 16k among
+// others, and the second number keeps only these four places.
+fn spread(bits: u64) -> u64
+    ensures { λ r. ⌜ r ≡ spread 1 bits ⌝ }
 {
-    (bits % 16 * 35185445863425 & 281479271743489) * 65535
+    (bits % 16 * 35185445863425) & 281479271743489
+}
+
+// For each of the four lowest bits a lane: all ones where the bit is set, else 0.
+fn mask(bits: u64) -> u64
+    ensures { λ r. ⌜ r ≡ spread 65535 bits ⌝ }
+{
+    spread(bits) * 65535
 }
 
 // Of the four seeds from place i on those whose bit, among the four lowest, is set; 0 in the lanes of the others.
@@ -44,8 +52,8 @@ fn chosen(seeds: &[u16], i: usize, bits: u64) -> u64
 fn fold(x: u64) -> usize
     ensures { λ r. ⌜ r ≡ folded x % 1024 ⌝ }
 {
-    let y = x ^ x / 4294967296;
-    let z = y ^ y / 65536;
+    let y = x ^ (x / 4294967296);
+    let z = y ^ (y / 65536);
     (z % 1024) as usize
 }
 

@@ -1,5 +1,4 @@
 -- `hash::hash` meets its contract: the four words of chosen seeds have all sixteen bits.
-use Prim.Native.Nat.{ℕ}
 use mathlib.Core.Path.{_≡_}
 use native.Mathlib.Omega.{arith}
 use lib.ListN.{length}
@@ -41,11 +40,14 @@ fold-requires c κs = search needs
 
 returns : tie.Need-returns
 returns c =
-    let w = c .before .before .before .before in
-    let start = w .before .before in
+    let fourth = c .before in
+    let third = fourth .before in
+    let second = third .before in
+    let first = second .before in
+    let start = first .before .before in
     let a = start .args in
-    hash-is (a .seeds .now) (a .f) (a .row) (w .chosen .result) (c .before .before .before .chosen2 .result) (c .before .before .chosen3 .result) (c .before .chosen4 .result) (c .fold .result)
-    (start .pre .0) (w .chosen .ensures) (c .before .before .before .chosen2 .ensures) (c .before .before .chosen3 .ensures) (c .before .chosen4 .ensures) (c .fold .ensures)
+    hash-is (a .seeds .now) (a .f) (a .row) (first .chosen .result) (second .chosen2 .result) (third .chosen3 .result) (fourth .chosen4 .result) (c .fold .result)
+    (start .pre .0) (first .chosen .ensures) (second .chosen2 .ensures) (third .chosen3 .ensures) (fourth .chosen4 .ensures) (c .fold .ensures)
 
 pub hash-spec : {M : Type 1} → statement M
 hash-spec =

@@ -1,20 +1,18 @@
--- `hash::mask` meets its contract.
-use Prim.Native.Nat.{_*_, _%_}
+-- `hash::mask` meets its contract: the four bits, spread, fill their lanes.
 use native.Mathlib.Omega.{arith}
-use lib.Bits.{and-le-r}
+use Rattle.hash.proofs.Masks.{filled}
 use borrow.Author.Needs.{needs}
-use Rattle.hash.proofs.Laws.{mask-is}
 use Rattle.hash.proofs.mask.Statement.{statement}
 use Rattle.hash.proofs.mask.Tie as tie
 
-mul-result : tie.Need-mul-result
-mul-result c = search needs
+spread-requires : tie.Need-spread-requires
+spread-requires c κs = search needs
 
-mul-result-2 : tie.Need-mul-result-2
-mul-result-2 c = omega (arith, and-le-r (c .args .bits % 16 * 35185445863425) 281479271743489)
+mul-result : tie.Need-mul-result
+mul-result c = omega (arith, filled (c .spread .result) (c .before .args .bits) (c .spread .ensures) .1)
 
 returns : tie.Need-returns
-returns c = mask-is (c .args .bits)
+returns c = filled (c .spread .result) (c .before .args .bits) (c .spread .ensures) .0
 
 pub mask-spec : {M : Type 1} → statement M
-mask-spec = tie.close (tie.spec mul-result mul-result-2 returns)
+mask-spec = tie.close (tie.spec spread-requires mul-result returns)

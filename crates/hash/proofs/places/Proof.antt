@@ -18,9 +18,13 @@ hash-requires-4 c κs = search needs
 
 returns : tie.Need-returns
 returns c =
-    let a = c .before .before .before .before .before .args in
-    let e = four-places (a .seeds .now) (a .row) (c .before .before .before .hash .result) (c .before .before .hash2 .result) (c .before .hash3 .result) (c .hash4 .result) (c .before .before .before .hash .ensures) (c .before .before .hash2 .ensures) (c .before .hash3 .ensures) (c .hash4 .ensures) in
-    (e, within (a .seeds .now) _ (a .row) (c .before .before .before .before .before .pre) e)
+    let third = c .before in
+    let second = third .before in
+    let first = second .before in
+    let start = first .before .before in
+    let a = start .args in
+    let e = four-places (a .seeds .now) (a .row) (first .hash .result) (second .hash2 .result) (third .hash3 .result) (c .hash4 .result) (first .hash .ensures) (second .hash2 .ensures) (third .hash3 .ensures) (c .hash4 .ensures) in
+    (e, within (a .seeds .now) _ (a .row) (start .pre) e)
 
 pub places-spec : {M : Type 1} → statement M
 places-spec =
