@@ -1,6 +1,6 @@
 // The H3 hash of a row: its four places in a counting Bloom filter, by four functions of 16 seeds each.
-// The sixteen seeds of a function are four words of four lanes, 16 bits each: a function is four loads, masks and exclusive ors, and
-// not sixteen, and no branch depends on the row.
+// The sixteen seeds of a function are four words of four lanes, 16 bits each, so that the seeds are masked and joined four at a time.
+// No branch depends on the row.
 ghost use mathlib.Core.Path.{_≡_};
 ghost use mathlib.Core.Bool.{true};
 ghost use Prim.Native.Nat.{_+_, _<_, _≤_, _%_};
