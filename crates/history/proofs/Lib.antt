@@ -1,3 +1,4 @@
 pub mod Runs
+pub mod Near
 pub mod Search
 pub mod Found

@@ -1,14 +1,12 @@
--- The test of the stored ticks by the straight runs of the ring, and a run's test by or-ed differences.
+-- The test of the stored ticks by the straight runs of the ring.
 use mathlib.Core.Path.{_≡_, sym, _∙_}
 use mathlib.Core.List.{List}
 use mathlib.Core.Bool.{Bool, true, false, not, _&&_}
-use Prim.Native.Nat.{ℕ, suc, _+_, _-_, _%_, _^_, _≤_, _<_}
+use Prim.Native.Nat.{ℕ, zero, suc, _+_, _-_, _≤_, _<_}
 use native.Mathlib.Omega.{arith}
 use native.Mathlib.Numerals.{add-one}
-use native.Mathlib.Nat.{lt-of-le-of-lt, mod-eq-of-lt}
 use native.Mathlib.Decide.{decLt, ℕ-discrete}
 use lib.Dec.{T, leb, leb→le, le→leb, not-T, T-not}
-use lib.Bits.{bitOr, or-add-and, and-le-r, or-comm}
 use lib.ListN.{getD}
 use borrow.Author.Tests.{not-true, not-false}
 use Rattle.rules.specs.Cells.{every}
@@ -55,29 +53,32 @@ run-all ticks i n f =
     every-all n (λ j. leb (getD ticks (i + j) 0) (getD ticks (i + j + 1) 0))
     (λ k h. le→leb (getD ticks (i + k) 0) (getD ticks (i + k + 1) 0) (f k h))
 
--- ---- or-ed differences
+-- in a run that does not fall, no cell is below the first
+pub run-rises : (ticks : List ℕ) (i n k : ℕ) → T (neverFalls ticks i n) → k ≤ n → getD ticks i 0 ≤ getD ticks (i + k) 0
+run-rises ticks i n zero t h =
+    let z : i + 0 ≡ i = omega arith in
+    rw z (omega arith)
+run-rises ticks i n (suc k) t h =
+    let z : i + suc k ≡ i + k + 1 = omega arith in
+    rw z (omega (arith, run-rises ticks i n k t (omega arith), run-at ticks i n k t (omega arith)))
 
-or-below : (a b : ℕ) → a ≤ bitOr a b
-or-below a b = omega (arith, or-add-and a b, and-le-r a b)
+-- a part of a run
+pub run-part : (ticks : List ℕ) (i n k m : ℕ) → T (neverFalls ticks i n) → k + m ≤ n → T (neverFalls ticks (i + k) m)
+run-part ticks i n k m t h =
+    run-all ticks (i + k) m
+    (λ j jh.
+    let z : i + k + j ≡ i + (k + j) = omega arith in
+    rw z (run-at ticks i n (k + j) t (omega arith)))
 
--- both parts of an or are below a bound that the or is below
-or-parts : (a b n : ℕ) → bitOr a b < n → (a < n) × (b < n)
-or-parts a b n h = (lt-of-le-of-lt (or-below a b) h, lt-of-le-of-lt (or-below b a) (rw or-comm h))
-
--- where neither number reaches half the word, the difference did not wrap
-exact : (d older newer half : ℕ) → (d + older) % (half + half) ≡ newer → d < half → older < half → older ≤ newer
-exact d older newer half e p q =
-    let z : (d + older) % (half + half) ≡ d + older = mod-eq-of-lt (omega arith) in
-    omega arith
-
--- one cell more: `all` is the or so far, d the difference that was added to it
-pub quick-more : (ticks : List ℕ) (i k all d : ℕ) → (all < 2 ^ 63 → T (neverFalls ticks i k))
-    → (d + getD ticks (i + k) 0) % 2 ^ 64 ≡ getD ticks (i + k + 1) 0
-    → bitOr (bitOr all (getD ticks (i + k) 0)) d < 2 ^ 63 → T (neverFalls ticks i (k + 1))
-quick-more ticks i k all d f e h =
-    let o = or-parts (bitOr all (getD ticks (i + k) 0)) d (2 ^ 63) h in
-    let q = or-parts all (getD ticks (i + k) 0) (2 ^ 63) (o .0) in
-    run-more ticks i k (f (q .0)) (exact d (getD ticks (i + k) 0) (getD ticks (i + k + 1) 0) (2 ^ 63) e (o .1) (q .1))
+-- two runs in a row
+pub run-join : (ticks : List ℕ) (i k m : ℕ) → T (neverFalls ticks i k) → T (neverFalls ticks (i + k) m) → T (neverFalls ticks i (k + m))
+run-join ticks i k m low high = run-all ticks i (k + m) (λ j jh. go j jh (decLt j k))
+  where
+    go : (j : ℕ) → j < k + m → Dec (j < k) → getD ticks (i + j) 0 ≤ getD ticks (i + j + 1) 0
+    go j jh (yes l) = run-at ticks i k j low l
+    go j jh (no l) =
+        let z : i + k + (j - k) ≡ i + j = omega arith in
+        rw z at (run-at ticks (i + k) m (j - k) high (omega arith))
 
 -- ---- the ring by its runs
 

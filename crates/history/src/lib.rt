@@ -21,18 +21,18 @@ pub fn is_not_after(stored: u64, last: u64) -> bool
     stored - 1 <= last
 }
 
-// The n cells from place i on and their differences to the next cell, or-ed: no branch, so that the compiler uses vectors.
-// While the top bit is clear in all of them, no difference has wrapped, so no cell is followed by a smaller one.
-fn differences(ticks: &[u64], i: usize, n: usize) -> u64
-    requires { ⌜ i + n < length (now ticks) ⌝ }
-    ensures { λ r. ⌜ (r < 2 ^ 63 → T (neverFalls (now (ticks .entry)) i n)) ⌝ }
+// The differences of the m cells from place i on to the next cell, or-ed: no branch, so that the compiler uses vectors. At most 64
+// differences below 2^58 add up to less than 2^64, so that at most one of them has wrapped, and then the last cell is below the first.
+fn differences(ticks: &[u64], i: usize, m: usize) -> u64
+    requires { ⌜ (i + m < length (now ticks)) × (m ≤ 64) × (getD (now ticks) i 0 ≤ getD (now ticks) (i + m) 0) ⌝ }
+    ensures { λ r. ⌜ (r < 2 ^ 58 → T (neverFalls (now (ticks .entry)) i m)) ⌝ }
 {
     let mut all: u64 = 0;
     let mut k: usize = 0;
-    while k < n {
+    while k < m {
         let older = ticks[i + k];
         let newer = ticks[i + k + 1];
-        all = all | older | std::num::wrapping_sub_u64(newer, older);
+        all = all | std::num::wrapping_sub_u64(newer, older);
         k += 1;
     }
     all
@@ -53,15 +53,33 @@ fn scan(ticks: &[u64], i: usize, n: usize) -> bool
     true
 }
 
-// The same. The quick test accepts every such run of ticks below 2^63, so the scan runs only in calls that are refused.
+// The same for a block of at most 64 cells, by its differences where each is below 2^58, else by the scan.
+fn block_never_falls(ticks: &[u64], i: usize, m: usize) -> bool
+    requires { ⌜ (i + m < length (now ticks)) × (m ≤ 64) ⌝ }
+    ensures { λ r. ⌜ r ≡ neverFalls (now (ticks .entry)) i m ⌝ }
+{
+    if ticks[i + m] < ticks[i] {
+        return false;
+    }
+    if differences(ticks, i, m) < 288230376151711744 {
+        return true;
+    }
+    scan(ticks, i, m)
+}
+
+// The same for a run of any length, by blocks. The compiler lays out the 64 cells of a whole block in a row.
 fn never_falls(ticks: &[u64], i: usize, n: usize) -> bool
     requires { ⌜ i + n < length (now ticks) ⌝ }
     ensures { λ r. ⌜ r ≡ neverFalls (now (ticks .entry)) i n ⌝ }
 {
-    if differences(ticks, i, n) < 9223372036854775808 {
-        return true;
+    let mut k: usize = 0;
+    while 64 <= n - k {
+        if !block_never_falls(ticks, i + k, 64) {
+            return false;
+        }
+        k += 64;
     }
-    scan(ticks, i, n)
+    block_never_falls(ticks, i + k, n - k)
 }
 
 // The place before p in the ring; before the next place lies the newest one.
@@ -75,6 +93,9 @@ fn place_before(h: usize, p: usize) -> usize
 // Whether no stored tick is after the last tick, and none rises from the newest place back. One pass is enough: where none
 // rises, the newest tick is the greatest. The cells from `next` on and those before it are two runs, each with its newest
 // cell last; the first cell of the run before `next` follows on the last cell of the other.
+// The quick test (`differences`) accepts every block in which no cell falls and each is less than 2^58 above the one before, however
+// large the ticks are. The scan runs only in a block with a greater gap or a fall. A call that is answered has ticks below 2^62, so
+// at most 16 such gaps; it scans at most 16 blocks, whatever h is.
 pub fn steady(ticks: &[u64], h: usize, next: usize, last: u64) -> bool
     requires { ⌜ (next < h) × (h ≤ length (now ticks)) ⌝ }
     ensures { λ r. ⌜ r ≡ (every h (λ p. notAfter last (getD (now (ticks .entry)) p 0)) && neverRises h next (now (ticks .entry))) ⌝ }
