@@ -1,4 +1,3 @@
 pub mod Runs
-pub mod Near
 pub mod Search
 pub mod Found

@@ -3,11 +3,10 @@
 ghost use mathlib.Core.Path.{_≡_};
 ghost use mathlib.Core.Bool.{true, false, _&&_, cond};
 ghost use Prim.Native.Nat.{_+_, _-_, _≤_, _<_, _^_};
-ghost use lib.Dec.{T, ltb, eqb};
+ghost use lib.Dec.{ltb, eqb};
 ghost use lib.ListN.{length, getD, set};
 ghost use Rattle.rules.specs.Cells.{every, clearCells};
 ghost use Rattle.rules.specs.History.{back, notAfter, neverRises, find};
-ghost use Rattle.history.specs.Runs.{neverFalls};
 
 // ---- the test of the stored ticks
 
@@ -21,67 +20,6 @@ pub fn is_not_after(stored: u64, last: u64) -> bool
     stored - 1 <= last
 }
 
-// The differences of the m cells from place i on to the next cell, or-ed: no branch, so that the compiler uses vectors. At most 64
-// differences below 2^58 add up to less than 2^64, so that at most one of them has wrapped, and then the last cell is below the first.
-fn differences(ticks: &[u64], i: usize, m: usize) -> u64
-    requires { ⌜ (i + m < length (now ticks)) × (m ≤ 64) × (getD (now ticks) i 0 ≤ getD (now ticks) (i + m) 0) ⌝ }
-    ensures { λ r. ⌜ (r < 2 ^ 58 → T (neverFalls (now (ticks .entry)) i m)) ⌝ }
-{
-    let mut all: u64 = 0;
-    let mut k: usize = 0;
-    while k < m {
-        let older = ticks[i + k];
-        let newer = ticks[i + k + 1];
-        all = all | std::num::wrapping_sub_u64(newer, older);
-        k += 1;
-    }
-    all
-}
-
-// Whether none of the n cells from place i on is followed by a smaller one, cell by cell.
-fn scan(ticks: &[u64], i: usize, n: usize) -> bool
-    requires { ⌜ i + n < length (now ticks) ⌝ }
-    ensures { λ r. ⌜ r ≡ neverFalls (now (ticks .entry)) i n ⌝ }
-{
-    let mut k: usize = 0;
-    while k < n {
-        if ticks[i + k + 1] < ticks[i + k] {
-            return false;
-        }
-        k += 1;
-    }
-    true
-}
-
-// The same for a block of at most 64 cells, by its differences where each is below 2^58, else by the scan.
-fn block_never_falls(ticks: &[u64], i: usize, m: usize) -> bool
-    requires { ⌜ (i + m < length (now ticks)) × (m ≤ 64) ⌝ }
-    ensures { λ r. ⌜ r ≡ neverFalls (now (ticks .entry)) i m ⌝ }
-{
-    if ticks[i + m] < ticks[i] {
-        return false;
-    }
-    if differences(ticks, i, m) < 288230376151711744 {
-        return true;
-    }
-    scan(ticks, i, m)
-}
-
-// The same for a run of any length, by blocks. The compiler lays out the 64 cells of a whole block in a row.
-fn never_falls(ticks: &[u64], i: usize, n: usize) -> bool
-    requires { ⌜ i + n < length (now ticks) ⌝ }
-    ensures { λ r. ⌜ r ≡ neverFalls (now (ticks .entry)) i n ⌝ }
-{
-    let mut k: usize = 0;
-    while 64 <= n - k {
-        if !block_never_falls(ticks, i + k, 64) {
-            return false;
-        }
-        k += 64;
-    }
-    block_never_falls(ticks, i + k, n - k)
-}
-
 // The place before p in the ring; before the next place lies the newest one.
 fn place_before(h: usize, p: usize) -> usize
     requires { ⌜ p < h ⌝ }
@@ -93,9 +31,9 @@ fn place_before(h: usize, p: usize) -> usize
 // Whether no stored tick is after the last tick, and none rises from the newest place back. One pass is enough: where none
 // rises, the newest tick is the greatest. The cells from `next` on and those before it are two runs, each with its newest
 // cell last; the first cell of the run before `next` follows on the last cell of the other.
-// The quick test (`differences`) accepts every block in which no cell falls and each is less than 2^58 above the one before, however
-// large the ticks are. The scan runs only in a block with a greater gap or a fall. A call that is answered has ticks below 2^62, so
-// at most 16 such gaps; it scans at most 16 blocks, whatever h is.
+// The quick test of `never_falls` accepts every block of cells that do not fall and lie less than 2^58 ticks apart, however large
+// they are. The exact scan runs only in a block with a fall or with a gap of 2^58 or more. In a call that is answered the ticks are
+// below 2^62, so there are at most 16 such gaps and at most 16 blocks are scanned, whatever h is.
 pub fn steady(ticks: &[u64], h: usize, next: usize, last: u64) -> bool
     requires { ⌜ (next < h) × (h ≤ length (now ticks)) ⌝ }
     ensures { λ r. ⌜ r ≡ (every h (λ p. notAfter last (getD (now (ticks .entry)) p 0)) && neverRises h next (now (ticks .entry))) ⌝ }
@@ -108,11 +46,11 @@ pub fn steady(ticks: &[u64], h: usize, next: usize, last: u64) -> bool
         if ticks[0] < ticks[h - 1] {
             return false;
         }
-        if !never_falls(ticks, 0, next - 1) {
+        if !runs::never_falls(ticks, 0, next - 1) {
             return false;
         }
     }
-    never_falls(ticks, next, h - 1 - next)
+    runs::never_falls(ticks, next, h - 1 - next)
 }
 
 // ---- the search

@@ -9,8 +9,8 @@ use native.Mathlib.Decide.{decLt}
 use lib.Dec.{T}
 use lib.Bits.{bitOr, or-add-and, and-le-r, or-comm}
 use lib.ListN.{getD}
-use Rattle.history.specs.Runs.{neverFalls}
-use Rattle.history.proofs.Runs.{run-none, run-more}
+use Rattle.runs.specs.Runs.{neverFalls}
+use Rattle.runs.proofs.Runs.{run-none, run-more}
 
 or-below : (a b : ℕ) → a ≤ bitOr a b
 or-below a b = omega (arith, or-add-and a b, and-le-r a b)

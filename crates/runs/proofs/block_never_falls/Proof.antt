@@ -1,12 +1,13 @@
--- `block_never_falls` meets its contract: a block that does not fall does not end below its first cell, and where the quick test accepts, no cell falls.
+-- `block_never_falls` meets its contract: a block that ends below its first cell falls; where the quick test accepts, no cell falls.
 use mathlib.Core.Path.{sym}
 use native.Mathlib.Omega.{arith}
-use Rattle.history.specs.Runs.{neverFalls}
+use Rattle.runs.specs.Runs.{neverFalls}
 use Rattle.rules.proofs.Tests.{is-true}
-use Rattle.history.proofs.Runs.{rejected, run-rises}
+use Rattle.runs.proofs.Results.{rejected}
+use Rattle.runs.proofs.Runs.{run-rises}
 use borrow.Author.Needs.{needs}
-use Rattle.history.proofs.block_never_falls.Statement.{statement}
-use Rattle.history.proofs.block_never_falls.Tie as tie
+use Rattle.runs.proofs.block_never_falls.Statement.{statement}
+use Rattle.runs.proofs.block_never_falls.Tie as tie
 
 add-if1 : tie.Need-add-if1
 add-if1 c = search needs

@@ -2,10 +2,10 @@
 use Prim.Native.Nat.{_-_, _≤_, _<_, _^_}
 use mathlib.Core.Path.{_≡_}
 use native.Mathlib.Omega.{arith}
-use Rattle.history.proofs.Near.{Near, near-none, near-more, near-all}
+use Rattle.runs.proofs.Near.{Near, near-none, near-more, near-all}
 use borrow.Author.Needs.{needs}
-use Rattle.history.proofs.differences.Statement.{statement}
-use Rattle.history.proofs.differences.Tie as tie
+use Rattle.runs.proofs.differences.Statement.{statement}
+use Rattle.runs.proofs.differences.Tie as tie
 
 abbrev Inv-loop : tie.InvT-loop
 Inv-loop ticks i m all₀ k₀ all k = (k ≤ m) × (all < 2 ^ 58 → Near ticks i k)

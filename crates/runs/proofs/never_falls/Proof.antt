@@ -3,12 +3,13 @@ use Prim.Native.Nat.{_+_, _-_, _≤_}
 use mathlib.Core.Path.{_≡_, _∙_}
 use native.Mathlib.Omega.{arith}
 use lib.Dec.{T}
-use Rattle.history.specs.Runs.{neverFalls}
+use Rattle.runs.specs.Runs.{neverFalls}
 use Rattle.rules.proofs.Tests.{same-test}
-use Rattle.history.proofs.Runs.{rejected-by, passed, run-none, run-part, run-join}
+use Rattle.runs.proofs.Results.{rejected-by, passed}
+use Rattle.runs.proofs.Runs.{run-none, run-part, run-join}
 use borrow.Author.Needs.{needs}
-use Rattle.history.proofs.never_falls.Statement.{statement}
-use Rattle.history.proofs.never_falls.Tie as tie
+use Rattle.runs.proofs.never_falls.Statement.{statement}
+use Rattle.runs.proofs.never_falls.Tie as tie
 
 abbrev Inv-loop : tie.InvT-loop
 Inv-loop ticks i n k₀ k = (k ≤ n) × T (neverFalls ticks i k)
