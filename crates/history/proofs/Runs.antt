@@ -1,85 +1,19 @@
--- The test of the stored ticks by the straight runs of the ring, and a run's test by or-ed differences.
-use mathlib.Core.Path.{_≡_, sym, _∙_}
+-- The test of the stored ticks by the straight runs of the ring.
+use mathlib.Core.Path.{_≡_, _∙_}
 use mathlib.Core.List.{List}
-use mathlib.Core.Bool.{Bool, true, false, not, _&&_}
-use Prim.Native.Nat.{ℕ, suc, _+_, _-_, _%_, _^_, _≤_, _<_}
+use mathlib.Core.Bool.{Bool, _&&_}
+use Prim.Native.Nat.{ℕ, suc, _+_, _-_, _≤_, _<_}
 use native.Mathlib.Omega.{arith}
-use native.Mathlib.Numerals.{add-one}
-use native.Mathlib.Nat.{lt-of-le-of-lt, mod-eq-of-lt}
 use native.Mathlib.Decide.{decLt, ℕ-discrete}
-use lib.Dec.{T, leb, leb→le, le→leb, not-T, T-not}
-use lib.Bits.{bitOr, or-add-and, and-le-r, or-comm}
+use lib.Dec.{T, leb, le→leb}
 use lib.ListN.{getD}
-use borrow.Author.Tests.{not-true, not-false}
 use Rattle.rules.specs.Cells.{every}
 use Rattle.rules.specs.History.{back, notAfter, neverRises}
-use Rattle.rules.proofs.Tests.{and-i, and-l, and-r, is-false, holds, fails, every-at, every-all}
+use Rattle.rules.proofs.Tests.{and-i, and-l, and-r, every-at, every-all}
 use Rattle.rules.proofs.Ring.{back-new, back-old, back-lt, back-back, falls-one, falls}
 use Rattle.rules.proofs.Memory.{not-after, after-not}
-use Rattle.history.specs.Runs.{neverFalls}
-
--- a test that does not hold, as an equation
-pub rejected : (b : Bool) → (T b → ⊥) → false ≡ b
-rejected b h = sym (is-false b (not-T b h))
-
--- a test whose part a, computed as r, does not hold
-pub rejected-by : (r a b : Bool) → r ≡ a → not r ≡ true → (T b → T a) → false ≡ b
-rejected-by r a b e n f = rejected b (λ t. T-not a (fails a (sym e ∙ not-true r n)) (f t))
-
--- a test that was computed as r and holds
-pub passed : (r a : Bool) → r ≡ a → not r ≡ false → T a
-passed r a e n = holds a (sym e ∙ not-false r n)
-
--- ---- a run
-
-pub run-none : (ticks : List ℕ) (i : ℕ) → T (neverFalls ticks i 0)
-unfolding neverFalls
-run-none ticks i = tt
-
-pub run-more : (ticks : List ℕ) (i k : ℕ) → T (neverFalls ticks i k) → getD ticks (i + k) 0 ≤ getD ticks (i + k + 1) 0 → T (neverFalls ticks i (k + 1))
-unfolding neverFalls
-run-more ticks i k t h =
-    rw (add-one k)
-    (and-i (every k (λ j. leb (getD ticks (i + j) 0) (getD ticks (i + j + 1) 0))) (leb (getD ticks (i + k) 0) (getD ticks (i + k + 1) 0)) t
-    (le→leb (getD ticks (i + k) 0) (getD ticks (i + k + 1) 0) h))
-
-pub run-at : (ticks : List ℕ) (i n k : ℕ) → T (neverFalls ticks i n) → k < n → getD ticks (i + k) 0 ≤ getD ticks (i + k + 1) 0
-unfolding neverFalls
-run-at ticks i n k t h =
-    leb→le (getD ticks (i + k) 0) (getD ticks (i + k + 1) 0)
-    (every-at n (λ j. leb (getD ticks (i + j) 0) (getD ticks (i + j + 1) 0)) t k h)
-
-pub run-all : (ticks : List ℕ) (i n : ℕ) → ((k : ℕ) → k < n → getD ticks (i + k) 0 ≤ getD ticks (i + k + 1) 0) → T (neverFalls ticks i n)
-unfolding neverFalls
-run-all ticks i n f =
-    every-all n (λ j. leb (getD ticks (i + j) 0) (getD ticks (i + j + 1) 0))
-    (λ k h. le→leb (getD ticks (i + k) 0) (getD ticks (i + k + 1) 0) (f k h))
-
--- ---- or-ed differences
-
-or-below : (a b : ℕ) → a ≤ bitOr a b
-or-below a b = omega (arith, or-add-and a b, and-le-r a b)
-
--- both parts of an or are below a bound that the or is below
-or-parts : (a b n : ℕ) → bitOr a b < n → (a < n) × (b < n)
-or-parts a b n h = (lt-of-le-of-lt (or-below a b) h, lt-of-le-of-lt (or-below b a) (rw or-comm h))
-
--- where neither number reaches half the word, the difference did not wrap
-exact : (d older newer half : ℕ) → (d + older) % (half + half) ≡ newer → d < half → older < half → older ≤ newer
-exact d older newer half e p q =
-    let z : (d + older) % (half + half) ≡ d + older = mod-eq-of-lt (omega arith) in
-    omega arith
-
--- one cell more: `all` is the or so far, d the difference that was added to it
-pub quick-more : (ticks : List ℕ) (i k all d : ℕ) → (all < 2 ^ 63 → T (neverFalls ticks i k))
-    → (d + getD ticks (i + k) 0) % 2 ^ 64 ≡ getD ticks (i + k + 1) 0
-    → bitOr (bitOr all (getD ticks (i + k) 0)) d < 2 ^ 63 → T (neverFalls ticks i (k + 1))
-quick-more ticks i k all d f e h =
-    let o = or-parts (bitOr all (getD ticks (i + k) 0)) d (2 ^ 63) h in
-    let q = or-parts all (getD ticks (i + k) 0) (2 ^ 63) (o .0) in
-    run-more ticks i k (f (q .0)) (exact d (getD ticks (i + k) 0) (getD ticks (i + k + 1) 0) (2 ^ 63) e (o .1) (q .1))
-
--- ---- the ring by its runs
+use Rattle.runs.specs.Runs.{neverFalls}
+use Rattle.runs.proofs.Runs.{run-at, run-all}
 
 -- the pair i and i + 1 steps back lies in the run from p on
 in-high : (h p i : ℕ) → p ≤ i → suc i < h → h - 2 - i < h - 1 - p

@@ -3,11 +3,10 @@
 ghost use mathlib.Core.Path.{_≡_};
 ghost use mathlib.Core.Bool.{true, false, _&&_, cond};
 ghost use Prim.Native.Nat.{_+_, _-_, _≤_, _<_, _^_};
-ghost use lib.Dec.{T, ltb, eqb};
+ghost use lib.Dec.{ltb, eqb};
 ghost use lib.ListN.{length, getD, set};
 ghost use Rattle.rules.specs.Cells.{every, clearCells};
 ghost use Rattle.rules.specs.History.{back, notAfter, neverRises, find};
-ghost use Rattle.history.specs.Runs.{neverFalls};
 
 // ---- the test of the stored ticks
 
@@ -21,49 +20,6 @@ pub fn is_not_after(stored: u64, last: u64) -> bool
     stored - 1 <= last
 }
 
-// The n cells from place i on and their differences to the next cell, or-ed: no branch, so that the compiler uses vectors.
-// While the top bit is clear in all of them, no difference has wrapped, so no cell is followed by a smaller one.
-fn differences(ticks: &[u64], i: usize, n: usize) -> u64
-    requires { ⌜ i + n < length (now ticks) ⌝ }
-    ensures { λ r. ⌜ (r < 2 ^ 63 → T (neverFalls (now (ticks .entry)) i n)) ⌝ }
-{
-    let mut all: u64 = 0;
-    let mut k: usize = 0;
-    while k < n {
-        let older = ticks[i + k];
-        let newer = ticks[i + k + 1];
-        all = all | older | std::num::wrapping_sub_u64(newer, older);
-        k += 1;
-    }
-    all
-}
-
-// Whether none of the n cells from place i on is followed by a smaller one, cell by cell.
-fn scan(ticks: &[u64], i: usize, n: usize) -> bool
-    requires { ⌜ i + n < length (now ticks) ⌝ }
-    ensures { λ r. ⌜ r ≡ neverFalls (now (ticks .entry)) i n ⌝ }
-{
-    let mut k: usize = 0;
-    while k < n {
-        if ticks[i + k + 1] < ticks[i + k] {
-            return false;
-        }
-        k += 1;
-    }
-    true
-}
-
-// The same. The quick test accepts every such run of ticks below 2^63, so the scan runs only in calls that are refused.
-fn never_falls(ticks: &[u64], i: usize, n: usize) -> bool
-    requires { ⌜ i + n < length (now ticks) ⌝ }
-    ensures { λ r. ⌜ r ≡ neverFalls (now (ticks .entry)) i n ⌝ }
-{
-    if differences(ticks, i, n) < 9223372036854775808 {
-        return true;
-    }
-    scan(ticks, i, n)
-}
-
 // The place before p in the ring; before the next place lies the newest one.
 fn place_before(h: usize, p: usize) -> usize
     requires { ⌜ p < h ⌝ }
@@ -75,6 +31,9 @@ fn place_before(h: usize, p: usize) -> usize
 // Whether no stored tick is after the last tick, and none rises from the newest place back. One pass is enough: where none
 // rises, the newest tick is the greatest. The cells from `next` on and those before it are two runs, each with its newest
 // cell last; the first cell of the run before `next` follows on the last cell of the other.
+// The quick test of `never_falls` accepts every block of cells that do not fall and lie less than 2^58 ticks apart, however large
+// they are. The exact scan runs only in a block with a fall or with a gap of 2^58 or more. In a call that is answered the ticks are
+// below 2^62, so there are at most 16 such gaps and at most 16 blocks are scanned, whatever h is.
 pub fn steady(ticks: &[u64], h: usize, next: usize, last: u64) -> bool
     requires { ⌜ (next < h) × (h ≤ length (now ticks)) ⌝ }
     ensures { λ r. ⌜ r ≡ (every h (λ p. notAfter last (getD (now (ticks .entry)) p 0)) && neverRises h next (now (ticks .entry))) ⌝ }
@@ -87,11 +46,11 @@ pub fn steady(ticks: &[u64], h: usize, next: usize, last: u64) -> bool
         if ticks[0] < ticks[h - 1] {
             return false;
         }
-        if !never_falls(ticks, 0, next - 1) {
+        if !runs::never_falls(ticks, 0, next - 1) {
             return false;
         }
     }
-    never_falls(ticks, next, h - 1 - next)
+    runs::never_falls(ticks, next, h - 1 - next)
 }
 
 // ---- the search

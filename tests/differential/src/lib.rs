@@ -8,6 +8,7 @@
 //! - `pair`: one call made to both, and the comparison
 //! - `settings`, `contents`, `walk`: settings, memory and calls
 //! - `campaign`, `tally`: numbered runs, and what they reached
+//! - `rings`: histories at the edges of refusal 7
 //! - `adversary`: rows hammered as often as the answers allow
 
 pub mod adversary;
@@ -18,6 +19,7 @@ mod library;
 mod memory;
 pub mod numbers;
 pub mod pair;
+pub mod rings;
 pub mod settings;
 pub mod side;
 pub mod tally;

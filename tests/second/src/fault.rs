@@ -76,6 +76,14 @@ faults! {
     WrapPairIsRise,
     /// Refusal 7 takes two equal history ticks for a rise.
     EqualIsRise,
+    /// Refusal 7 misses a rise from place H - 1 to place 0.
+    WrapPairMissed,
+    /// Refusal 7 misses a rise from one block of 64 places to the next.
+    BlockEndMissed,
+    /// Refusal 7 misses a rise of more than 2^63.
+    LargeRiseMissed,
+    /// Refusal 7 takes a gap of 2^58 ticks or more for a rise.
+    LargeGapIsRise,
     /// Refusal 7 looks at kept ticks of banks outside the setting.
     LooksAtForeignBanks,
     /// A bad bank or thread is reported before bad memory.

@@ -90,16 +90,30 @@ impl State {
     /// back? Needs a history place below H.
     fn rises(&self, rules: &Rules) -> bool {
         let place = self.head[PLACE] as usize;
-        let back = |age: usize| self.ticks[(place + 2 * rules.h - 1 - age) % rules.h];
+        let back = |age: usize| (place + 2 * rules.h - 1 - age) % rules.h;
         let pairs = if rules.has(Fault::WrapPairIsRise) {
             rules.h
         } else {
             rules.h - 1
         };
-        (0..pairs).any(|age| {
-            let (newer, older) = (back(age), back(age + 1));
-            older > newer || rules.has(Fault::EqualIsRise) && newer != 0 && older == newer
-        })
+        (0..pairs).any(|age| self.rise(rules, back(age), back(age + 1)))
+    }
+
+    /// Do the stored ticks rise from one history place to the older one?
+    fn rise(&self, rules: &Rules, newer: usize, older: usize) -> bool {
+        let place = self.head[PLACE] as usize;
+        let start = if newer < place { 0 } else { place };
+        let (new, old) = (self.ticks[newer], self.ticks[older]);
+        match rules.fault {
+            Fault::EqualIsRise => old > new || new != 0 && old == new,
+            Fault::WrapPairMissed => old > new && newer != 0,
+            Fault::BlockEndMissed => {
+                old > new && (newer == start || !(newer - start).is_multiple_of(64))
+            }
+            Fault::LargeRiseMissed => old > new && old - new <= 1 << 63,
+            Fault::LargeGapIsRise => old > new || new - old >= 1 << 58,
+            _ => old > new,
+        }
     }
 }
 

@@ -99,6 +99,33 @@ fn fill(numbers: &mut Numbers, setting: &[u64; 9], state: &mut State) {
     }
 }
 
+/// A setting with a history of 132 places, that is three blocks of 64 or less.
+const LONG: [u64; 9] = [80, 1, 1, 1, 33, 8, 3, 1, 1];
+
+/// Fills a long history with large ticks that rise evenly but for one place: a
+/// fall by one, a fall to small ticks, or empty places before it.
+fn fill_long(numbers: &mut Numbers, state: &mut State) {
+    let h = state.ticks.len() as u64;
+    let last = 3 << 62;
+    let place = numbers.within(0, h - 1);
+    let at = match numbers.within(0, 2) {
+        0 => h - place.max(1),
+        1 => 64,
+        _ => numbers.within(1, h - 1),
+    };
+    let bend = numbers.within(0, 3);
+    let stored = |age: u64| match bend {
+        0 if age == at => last - 2 * (h - at) - 1,
+        1 if age >= at => age,
+        2 if age < at => 0,
+        _ => last - 2 * (h - 1 - age),
+    };
+    state.ticks = (0..h).map(stored).collect();
+    state.ticks.rotate_right(place as usize);
+    state.head[0] = last;
+    state.head[1] = place;
+}
+
 /// The calls of a run from a first tick on.
 fn calls(numbers: &mut Numbers, setting: &[u64; 9], mut tick: u64) -> Vec<Call> {
     let mut call = || {
@@ -123,13 +150,16 @@ fn calls(numbers: &mut Numbers, setting: &[u64; 9], mut tick: u64) -> Vec<Call> 
 
 fn run(seed: u64) -> Run {
     let numbers = &mut Numbers(seed.wrapping_mul(0x9E37_79B9_7F4A_7C15) | 1);
-    let setting = setting(numbers);
+    let long = numbers.one_in(8);
+    let setting = if long { LONG } else { setting(numbers) };
     let mut seeds = house_seeds();
     if numbers.one_in(3) {
         seeds.iter_mut().for_each(|seed| *seed %= 4);
     }
     let mut state = fresh(&setting);
-    if numbers.one_in(2) {
+    if long {
+        fill_long(numbers, &mut state);
+    } else if numbers.one_in(2) {
         state.head[0] = numbers.within(0, 200);
         fill(numbers, &setting, &mut state);
     } else if numbers.one_in(8) {

@@ -6,9 +6,10 @@ use native.Mathlib.Omega.{arith}
 use lib.Dec.{T}
 use lib.ListN.{getD}
 use Rattle.rules.specs.History.{back, notAfter}
-use Rattle.history.specs.Runs.{neverFalls}
+use Rattle.runs.specs.Runs.{neverFalls}
 use Rattle.rules.proofs.Tests.{same-test}
-use Rattle.history.proofs.Runs.{rejected, rejected-by, passed, tested, steady-newest, steady-wrap, steady-low, steady-high, steady-all}
+use Rattle.runs.proofs.Results.{rejected, rejected-by, passed}
+use Rattle.history.proofs.Runs.{tested, steady-newest, steady-wrap, steady-low, steady-high, steady-all}
 use borrow.Author.Needs.{needs}
 use Rattle.history.proofs.steady.Statement.{statement}
 use Rattle.history.proofs.steady.Tie as tie

@@ -1,7 +1,9 @@
 //! Compares the library with the second implementation after every call of a
-//! campaign. Arguments, both optional: the seed and the number of runs.
+//! campaign, and on listed histories. Arguments, both optional: the seed and the
+//! number of runs.
 
 use differential::campaign::Campaign;
+use differential::rings;
 use differential::settings::{accepted, BASES};
 use differential::tally::Tally;
 use second::Fault;
@@ -31,6 +33,16 @@ fn main() -> ExitCode {
     for run in 0..runs {
         if let Err(difference) = campaign.run(run, Fault::None, &mut tally) {
             println!("compare: DIFFERENCE in run {run}: {difference:#?}");
+            return ExitCode::FAILURE;
+        }
+    }
+    match rings::compare(Fault::None) {
+        Ok(told) => println!(
+            "  listed histories: {} sound, {} not",
+            told.sound, told.unsound
+        ),
+        Err(difference) => {
+            println!("compare: DIFFERENCE in a listed history: {difference:#?}");
             return ExitCode::FAILURE;
         }
     }

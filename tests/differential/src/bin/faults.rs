@@ -3,6 +3,7 @@
 //! Argument, optional: the seed.
 
 use differential::campaign::Campaign;
+use differential::rings;
 use differential::tally::Tally;
 use second::Fault;
 use std::process::ExitCode;
@@ -21,7 +22,9 @@ fn main() -> ExitCode {
     let mut caught = 0;
     for &fault in Fault::ALL {
         let mut tally = Tally::default();
-        let found = (0..RUNS).find_map(|run| campaign.run(run, fault, &mut tally).err());
+        let found = (0..RUNS)
+            .find_map(|run| campaign.run(run, fault, &mut tally).err())
+            .or_else(|| rings::compare(fault).err());
         match found {
             Some(difference) => {
                 caught += 1;

@@ -1,22 +1,20 @@
--- `differences` meets its contract. The invariant: while the top bit of the or is clear, the cells passed do not fall.
+-- `differences` meets its contract. The invariant: while the or is small, the differences passed wrapped at most once.
 use Prim.Native.Nat.{_-_, _≤_, _<_, _^_}
 use mathlib.Core.Path.{_≡_}
 use native.Mathlib.Omega.{arith}
-use lib.Dec.{T}
-use Rattle.history.specs.Runs.{neverFalls}
-use Rattle.history.proofs.Runs.{run-none, quick-more}
+use Rattle.runs.proofs.Near.{Near, near-none, near-more, near-all}
 use borrow.Author.Needs.{needs}
-use Rattle.history.proofs.differences.Statement.{statement}
-use Rattle.history.proofs.differences.Tie as tie
+use Rattle.runs.proofs.differences.Statement.{statement}
+use Rattle.runs.proofs.differences.Tie as tie
 
 abbrev Inv-loop : tie.InvT-loop
-Inv-loop ticks i n all₀ k₀ all k = (k ≤ n) × (all < 2 ^ 63 → T (neverFalls ticks i k))
+Inv-loop ticks i m all₀ k₀ all k = (k ≤ m) × (all < 2 ^ 58 → Near ticks i k)
 
 abbrev μ-loop : tie.MeasureT-loop
-μ-loop ticks i n all₀ k₀ all k = n - k
+μ-loop ticks i m all₀ k₀ all k = m - k
 
 loop-holds : tie.Need-loop-holds Inv-loop μ-loop
-loop-holds c = (omega arith, λ z. run-none (c .before .args .ticks .now) (c .before .args .i))
+loop-holds c = (omega arith, λ z. near-none (c .before .args .ticks .now) (c .before .args .i))
 
 add-older : tie.Need-add-older Inv-loop μ-loop
 add-older c = search needs
@@ -52,12 +50,13 @@ loop-again : tie.Need-loop-again Inv-loop μ-loop
 loop-again c =
     let a = c .before .before .before .before .before .before .args in
     let l = c .before .before .before .before .loop in
-    (omega arith, quick-more (a .ticks .now) (a .i) (l .k) (l .all) (c .wrapping-sub-u64 .result) (l .inv .1) (c .wrapping-sub-u64 .ensures))
+    (omega arith, near-more (a .ticks .now) (a .i) (l .k) (l .all) (c .wrapping-sub-u64 .result) (l .inv .1) (c .wrapping-sub-u64 .ensures))
 
 returns : tie.Need-returns Inv-loop μ-loop
 returns c =
-    let z : c .before .loop .k ≡ c .before .before .before .args .n = omega arith in
-    rw z at (c .before .loop .inv .1)
+    let a = c .before .before .before .args in
+    let z : c .before .loop .k ≡ a .m = omega arith in
+    λ h. near-all (a .ticks .now) (a .i) (a .m) (omega arith) (omega arith) (rw z at (c .before .loop .inv .1) h)
 
 pub differences-spec : {M : Type 1} → statement M
 differences-spec =

@@ -3,12 +3,13 @@ use Prim.Native.Nat.{_-_, _≤_}
 use mathlib.Core.Path.{_≡_, sym}
 use native.Mathlib.Omega.{arith}
 use lib.Dec.{T}
-use Rattle.history.specs.Runs.{neverFalls}
+use Rattle.runs.specs.Runs.{neverFalls}
 use Rattle.rules.proofs.Tests.{is-true}
-use Rattle.history.proofs.Runs.{rejected, run-none, run-more, run-at}
+use Rattle.runs.proofs.Results.{rejected}
+use Rattle.runs.proofs.Runs.{run-none, run-more, run-at}
 use borrow.Author.Needs.{needs}
-use Rattle.history.proofs.scan.Statement.{statement}
-use Rattle.history.proofs.scan.Tie as tie
+use Rattle.runs.proofs.scan.Statement.{statement}
+use Rattle.runs.proofs.scan.Tie as tie
 
 abbrev Inv-loop : tie.InvT-loop
 Inv-loop ticks i n k₀ k = (k ≤ n) × T (neverFalls ticks i k)
