@@ -61,7 +61,7 @@ or-below : (a b : ℕ) → a ≤ bitOr a b
 or-below a b = omega (arith, or-add-and a b, and-le-r a b)
 
 -- both parts of an or are below a bound that the or is below
-or-parts : (a b n : ℕ) → bitOr a b < n → (a < n) × (b < n)
+pub or-parts : (a b n : ℕ) → bitOr a b < n → (a < n) × (b < n)
 or-parts a b n h = (lt-of-le-of-lt (or-below a b) h, lt-of-le-of-lt (or-below b a) (rw or-comm h))
 
 -- where neither number reaches half the word, the difference did not wrap
