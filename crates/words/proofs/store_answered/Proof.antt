@@ -1,5 +1,5 @@
 -- `store_answered` stores what has changed.
-use mathlib.Core.Path.{_∙_, sym}
+use mathlib.Core.Path.{_∙_}
 use borrow.Author.Needs.{needs}
 use Rattle.words.proofs.store_answered.Statement.{statement}
 use Rattle.words.proofs.store_answered.Tie as tie
