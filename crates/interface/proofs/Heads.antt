@@ -4,7 +4,6 @@ use mathlib.Core.List.{List}
 use Prim.Native.Nat.{ℕ, zero, suc}
 use native.Mathlib.Omega.{arith}
 use lib.ListN.{length, length-set}
-use lib.Seq.{ext-getD}
 use Rattle.rules.specs.declared.Setting.{Setting}
 use Rattle.rules.specs.declared.Head.{Head}
 use Rattle.rules.specs.declared.Answer.{Answer}
@@ -15,19 +14,12 @@ use Rattle.rules.specs.Hash.{places}
 use Rattle.rules.specs.Policy.{Policy}
 use Rattle.rules.specs.Decision.{decide, activatedHead, activated}
 use Rattle.rules.specs.Calls.{Call, request, done, index, afterAnswer, requested, reported, indexShown, performed}
-use Rattle.rules.proofs.Cells.{getD-first}
+use Rattle.rules.proofs.Cells.{cells-all}
 
 -- sixteen banks and the rank's four
 pub record Shape (h : Head) : Type 0 where
   pub bank : length (h .bank) ≡ 16
   pub rank : length (h .rank) ≡ 4
-
-length-cells : (l : List ℕ) (i n : ℕ) → length (cells l i n) ≡ n
-length-cells l i zero = refl
-length-cells l i (suc n) = omega (arith, length-cells l (suc i) n)
-
-cells-all : (l : List ℕ) (n : ℕ) → length l ≡ n → cells l 0 n ≡ l
-cells-all l n e = ext-getD 0 (cells l 0 n) l (length-cells l 0 n ∙ sym e) (λ i h. getD-first l n i (omega (arith, length-cells l 0 n)))
 
 pub words-back : (h : Head) → Shape h → headOf (headWords h) ≡ h
 unfolding headOf headWords

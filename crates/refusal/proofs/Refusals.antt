@@ -20,7 +20,7 @@ use Rattle.rules.specs.Tested.{Accepted}
 use Rattle.rules.specs.Calls.{setupRefusal, callRefusal, doneRefusal}
 use Rattle.rules.proofs.Tests.{every-at, every-all, is-false, is-true, not-or}
 use Rattle.rules.proofs.Accept.{number-none, first-refusal, orElse-none, refuse-none, accepted}
-use Rattle.refusal.specs.Tests.{shortTest, memoryTest, placeRefusal, setupTest, callTest, doneTest}
+use Rattle.refusal.specs.Tests.{shortTest, memoryTest, placeRefusal, setupTest, lentTest, callTest, doneTest}
 
 -- ---- a test of every number below n, one by one
 
@@ -40,11 +40,7 @@ every-stops n i p h e = is-false (every n p) (go (every n p) refl)
     go true k = absurd (subst T e (every-at n p (subst T (sym k) tt) i h))
     go false k = tt
 
--- the last of four tests decides where the others hold
-pub four-last : (p : ℕ → Bool) → p 0 ≡ true → p 1 ≡ true → p 2 ≡ true → p 3 ≡ every 4 p
-four-last p a b c = rw (a, b, c)
-
--- and the last of the lengths
+-- the last of the lengths decides where the others are long enough
 pub short-last : (s : Setting) (counters ticks rows threads : ℕ) → countersUsed s ≤ counters → historyLength s ≤ ticks → historyLength s ≤ rows
     → ltb threads (threadsUsed s) ≡ shortTest s counters ticks rows threads
 unfolding shortTest
@@ -86,18 +82,22 @@ orElse-first a b h = rw (ne-eqb (refusalNumber a) 0 h)
 pub orElse-second : (a b : Refusal) → refusalNumber a ≡ 0 → orElse a b ≡ b
 orElse-second a b h = rw (eq-eqb (refusalNumber a) 0 h)
 
+-- a refusal and nothing after it
+pub orElse-nothing : (a : Refusal) → orElse a none ≡ a
+orElse-nothing a = first-refusal (λ x. x ≡ a) a none (λ e. sym e) (λ h. refl)
+
 -- a test and what comes after it, in two parts
-refuse-parts : (a : Refusal) (q : Bool) (b : Refusal) → orElse a (refuse q shortBuffer b) ≡ orElse (orElse a (refuse q shortBuffer none)) b
-refuse-parts a q b = first-refusal (λ x. x ≡ orElse (orElse a (refuse q shortBuffer none)) b) a (refuse q shortBuffer b) (λ e. rw e (later q)) some
+refuse-parts : (a : Refusal) (q : Bool) (r b : Refusal) → refusalNumber r ≢ 0 → orElse a (refuse q r b) ≡ orElse (orElse a (refuse q r none)) b
+refuse-parts a q r b h = first-refusal (λ x. x ≡ orElse (orElse a (refuse q r none)) b) a (refuse q r b) (λ e. rw e (later q)) some
   where
-    later : (q : Bool) → refuse q shortBuffer b ≡ orElse (refuse q shortBuffer none) b
-    later true = refl
+    later : (q : Bool) → refuse q r b ≡ orElse (refuse q r none) b
+    later true = sym (orElse-first r b h)
     later false = refl
 
-    some : 0 < refusalNumber a → a ≡ orElse (orElse a (refuse q shortBuffer none)) b
-    some h =
+    some : 0 < refusalNumber a → a ≡ orElse (orElse a (refuse q r none)) b
+    some k =
         let number : refusalNumber a ≢ 0 = λ z. omega arith in
-        rw (orElse-first a (refuse q shortBuffer none) number, orElse-first a b number)
+        rw (orElse-first a (refuse q r none) number, orElse-first a b number)
 
 -- ---- the rules' refusals of a state are these tests of its parts
 
@@ -111,14 +111,43 @@ module _ (m : Limits) (s : Setting) (seeds : List ℕ) (st : State) where
       ≡ callTest m s seeds (st .head) (length (st .counters)) (st .ticks) (length (st .rows)) (length (st .threads)) tick bank thread
   unfolding callRefusal callTest tooShort setupTest shortTest memoryOk memoryTest placeRefusal
   call-test tick bank thread =
-      refuse-parts (settingRefusal m s seeds) (shortTest s (length (st .counters)) (length (st .ticks)) (length (st .rows)) (length (st .threads)))
-      (refuse (not (memoryTest s (st .head) (st .ticks))) badMemory (placeRefusal s (st .head .last) tick bank thread))
+      refuse-parts (settingRefusal m s seeds) (shortTest s (length (st .counters)) (length (st .ticks)) (length (st .rows)) (length (st .threads))) shortBuffer
+      (refuse (not (memoryTest s (st .head) (st .ticks))) badMemory (placeRefusal s (st .head .last) tick bank thread)) (λ z. omega arith)
 
   pub done-test : (tick bank thread : ℕ)
       → doneRefusal m s seeds st tick bank thread
       ≡ doneTest m s seeds (st .head) (length (st .counters)) (st .ticks) (length (st .rows)) (st .threads) tick bank thread
   unfolding doneRefusal doneTest
   done-test tick bank thread = rw (call-test tick bank thread)
+
+-- ---- refusals 1 to 7 of what is lent
+
+module _ (m : Limits) (s : Setting) (seeds : List ℕ) (h : Head) (counters : ℕ) (ticks : List ℕ) (rows threads : ℕ) where
+  -- set-up has none but 1 to 6
+  pub lent-setup : lentTest m s seeds h counters ticks rows threads false ≡ setupTest m s seeds counters (length ticks) rows threads
+  unfolding lentTest
+  lent-setup = orElse-nothing (setupTest m s seeds counters (length ticks) rows threads)
+
+  -- refused with one of these
+  pub lent-first : (keeps : Bool) → refusalNumber (setupTest m s seeds counters (length ticks) rows threads) ≢ 0
+      → lentTest m s seeds h counters ticks rows threads keeps ≡ setupTest m s seeds counters (length ticks) rows threads
+  unfolding lentTest
+  lent-first keeps k = orElse-first (setupTest m s seeds counters (length ticks) rows threads) _ k
+
+  -- and else 7 decides
+  pub lent-memory : refusalNumber (setupTest m s seeds counters (length ticks) rows threads) ≡ 0
+      → lentTest m s seeds h counters ticks rows threads true ≡ refuse (not (memoryTest s h ticks)) badMemory none
+  unfolding lentTest
+  lent-memory e = orElse-second (setupTest m s seeds counters (length ticks) rows threads) _ e
+
+  -- a call has 8 and 9 after them
+  pub call-parts : (tick bank thread : ℕ)
+      → callTest m s seeds h counters ticks rows threads tick bank thread
+      ≡ orElse (lentTest m s seeds h counters ticks rows threads true) (placeRefusal s (h .last) tick bank thread)
+  unfolding callTest lentTest
+  call-parts tick bank thread =
+      refuse-parts (setupTest m s seeds counters (length ticks) rows threads) (not (memoryTest s h ticks)) badMemory
+      (placeRefusal s (h .last) tick bank thread) (λ z. omega arith)
 
 -- ---- what the tests that are passed tell
 

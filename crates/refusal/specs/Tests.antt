@@ -1,5 +1,5 @@
 -- The tests of a call's refusals, from the numbers and the lists that each looks at; no test looks into a counter.
-use Prim.Native.Nat.{ℕ, _^_}
+use Prim.Native.Nat.{ℕ, _+_, _^_}
 use mathlib.Core.List.{List}
 use mathlib.Core.Bool.{Bool, not, _&&_, _||_}
 use lib.Dec.{leb, ltb, eqb}
@@ -27,6 +27,10 @@ memoryTest s h ticks =
     && every (historyLength s) (λ p. notAfter (h .last) (getD ticks p 0))
     && neverRises (historyLength s) (h .next) ticks
 
+-- none of the n stored ticks from word i of the head on is after the last tick, which is word 0
+unfoldable pub wordsPast : List ℕ → ℕ → ℕ → Bool
+wordsPast words i n = every n (λ k. notAfter (getD words 0 0) (getD words (i + k) 0))
+
 -- refusals 8 and 9, by the last tick and the arguments
 unfoldable pub placeRefusal : Setting → ℕ → ℕ → ℕ → ℕ → Refusal
 placeRefusal s last tick bank thread =
@@ -36,6 +40,11 @@ placeRefusal s last tick bank thread =
 unfoldable pub setupTest : Limits → Setting → List ℕ → ℕ → ℕ → ℕ → ℕ → Refusal
 setupTest m s seeds counters ticks rows threads =
     orElse (settingRefusal m s seeds) (refuse (shortTest s counters ticks rows threads) shortBuffer none)
+
+-- refusals 1 to 6, and 7 where the call keeps what the memory holds, as every call but set-up does
+unfoldable pub lentTest : Limits → Setting → List ℕ → Head → ℕ → List ℕ → ℕ → ℕ → Bool → Refusal
+lentTest m s seeds h counters ticks rows threads keeps =
+    orElse (setupTest m s seeds counters (length ticks) rows threads) (refuse (keeps && not (memoryTest s h ticks)) badMemory none)
 
 -- refusals 1 to 9: of counters, rows and thread counters the lengths are enough
 unfoldable pub callTest : Limits → Setting → List ℕ → Head → ℕ → List ℕ → ℕ → ℕ → ℕ → ℕ → ℕ → Refusal

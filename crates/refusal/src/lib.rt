@@ -1,67 +1,17 @@
 // Refusals 1 to 10 of the calls, in their order, for any limits of the setting. No function here knows the width of a counter.
-use rules::Head;
+use memory::memory_ok;
 use rules::Limits;
 use rules::Setting;
 ghost use mathlib.Core.Path.{_≡_};
 ghost use Prim.Native.Nat.{_≤_, _<_, _^_};
 ghost use lib.Dec.{eqb};
 ghost use lib.ListN.{length, getD};
-ghost use Rattle.rules.specs.Cells.{every};
 ghost use Rattle.rules.specs.Answers.{none, noneInFlight, refusalNumber, refuse};
-ghost use Rattle.rules.specs.Setting.{historyLength};
-ghost use Rattle.rules.specs.State.{threadsUsed, threadCell};
-ghost use Rattle.rules.specs.History.{notAfter};
-ghost use Rattle.refusal.specs.Tests.{memoryTest, shortTest, placeRefusal, setupTest, callTest, doneTest};
+ghost use Rattle.rules.specs.Setting.{settingOf, historyLength};
+ghost use Rattle.rules.specs.State.{threadsUsed, threadCell, headOf};
+ghost use Rattle.refusal.specs.Tests.{shortTest, placeRefusal, setupTest, lentTest, callTest, doneTest};
 
-// Whether no bank of the setting has a stored tick after the last tick.
-fn banks_past(h: Head, banks: u64) -> bool
-    requires { ⌜ banks ≤ 16 ⌝ }
-    ensures { λ r. ⌜ r ≡ every banks (λ b. notAfter (h .last) (getD (h .bank) b 0)) ⌝ }
-{
-    let stored = h.bank;
-    let mut b: usize = 0;
-    while b < banks as usize {
-        if !history::is_not_after(stored[b], h.last) {
-            return false;
-        }
-        b += 1;
-    }
-    true
-}
-
-// Whether none of the rank's four stored ticks is after the last tick.
-fn rank_past(h: Head) -> bool
-    ensures { λ r. ⌜ r ≡ every 4 (λ k. notAfter (h .last) (getD (h .rank) k 0)) ⌝ }
-{
-    let stored = h.rank;
-    if !history::is_not_after(stored[0], h.last) {
-        return false;
-    }
-    if !history::is_not_after(stored[1], h.last) {
-        return false;
-    }
-    if !history::is_not_after(stored[2], h.last) {
-        return false;
-    }
-    history::is_not_after(stored[3], h.last)
-}
-
-// Refusal 7 does not apply.
-fn memory_ok(s: Setting, h: Head, ticks: &[u64], places: usize) -> bool
-    requires { ⌜ (s .banks ≤ 16) × (places ≡ historyLength s) × (places ≤ length (now ticks)) ⌝ }
-    ensures { λ r. ⌜ r ≡ memoryTest s h (now (ticks .entry)) ⌝ }
-{
-    if places as u64 <= h.next {
-        return false;
-    }
-    if !banks_past(h, s.banks) {
-        return false;
-    }
-    if !rank_past(h) {
-        return false;
-    }
-    history::steady(ticks, places, h.next as usize, h.last)
-}
+pub mod memory;
 
 // Whether one of the buffers, given by its length, is too short.
 fn too_short(
@@ -134,12 +84,43 @@ pub fn place_refusal(s: Setting, last: u64, tick: u64, bank: u64, thread: u64) -
     if 4611686018427387904 <= tick { 9 } else { 0 }
 }
 
-// Refusals 1 to 9 of a call with a tick, a bank and a thread. Of counters, rows and thread counters it takes the lengths.
+// Refusals 1 to 6 and, where the call keeps what the memory holds, 7. The setting and the head are read where the caller lent them. Of
+// counters, rows and thread counters it takes the lengths.
+pub fn lent_refusal(
+    m: Limits,
+    setting: &[u64; 9],
+    seeds: &[u16],
+    head: &[u64; 22],
+    counters: usize,
+    ticks: &[u64],
+    rows: usize,
+    threads: usize,
+    keeps: bool,
+) -> u32
+    requires { ⌜ m .threshold ≤ 2 ^ 20 ⌝ }
+    ensures { λ r. ⌜ r ≡ refusalNumber (lentTest m (settingOf (now (setting .entry))) (now (seeds .entry)) (headOf (now (head .entry))) counters (now (ticks .entry)) rows threads keeps) ⌝ }
+{
+    let s = setting::load(setting);
+    let code = setup_refusal(m, s, seeds, counters, ticks.len(), rows, threads);
+    if code != 0 {
+        return code;
+    }
+    if !keeps {
+        return 0;
+    }
+    if memory_ok(s, head, ticks, setting::history_length(s)) {
+        0
+    } else {
+        7
+    }
+}
+
+// Refusals 1 to 9 of a call with a tick, a bank and a thread.
 pub fn call_refusal(
     m: Limits,
-    s: Setting,
+    setting: &[u64; 9],
     seeds: &[u16],
-    h: Head,
+    head: &[u64; 22],
     counters: usize,
     ticks: &[u64],
     rows: usize,
@@ -149,16 +130,23 @@ pub fn call_refusal(
     thread: u64,
 ) -> u32
     requires { ⌜ m .threshold ≤ 2 ^ 20 ⌝ }
-    ensures { λ r. ⌜ r ≡ refusalNumber (callTest m s (now (seeds .entry)) h counters (now (ticks .entry)) rows threads tick bank thread) ⌝ }
+    ensures { λ r. ⌜ r ≡ refusalNumber (callTest m (settingOf (now (setting .entry))) (now (seeds .entry)) (headOf (now (head .entry))) counters (now (ticks .entry)) rows threads tick bank thread) ⌝ }
 {
-    let code = setup_refusal(m, s, seeds, counters, ticks.len(), rows, threads);
+    let code = lent_refusal(
+        m,
+        setting,
+        seeds,
+        head,
+        counters,
+        ticks,
+        rows,
+        threads,
+        true,
+    );
     if code != 0 {
         return code;
     }
-    if !memory_ok(s, h, ticks, setting::history_length(s)) {
-        return 7;
-    }
-    place_refusal(s, h.last, tick, bank, thread)
+    place_refusal(setting::load(setting), head[0], tick, bank, thread)
 }
 
 // Refusal 10.
@@ -173,9 +161,9 @@ pub fn flying_refusal(s: Setting, threads: &[u32], bank: u64, thread: u64) -> u3
 // Refusals 1 to 10 of a done.
 pub fn done_refusal(
     m: Limits,
-    s: Setting,
+    setting: &[u64; 9],
     seeds: &[u16],
-    h: Head,
+    head: &[u64; 22],
     counters: usize,
     ticks: &[u64],
     rows: usize,
@@ -185,13 +173,13 @@ pub fn done_refusal(
     thread: u64,
 ) -> u32
     requires { ⌜ m .threshold ≤ 2 ^ 20 ⌝ }
-    ensures { λ r. ⌜ r ≡ refusalNumber (doneTest m s (now (seeds .entry)) h counters (now (ticks .entry)) rows (now (threads .entry)) tick bank thread) ⌝ }
+    ensures { λ r. ⌜ r ≡ refusalNumber (doneTest m (settingOf (now (setting .entry))) (now (seeds .entry)) (headOf (now (head .entry))) counters (now (ticks .entry)) rows (now (threads .entry)) tick bank thread) ⌝ }
 {
     let code = call_refusal(
         m,
-        s,
+        setting,
         seeds,
-        h,
+        head,
         counters,
         ticks,
         rows,
@@ -203,5 +191,5 @@ pub fn done_refusal(
     if code != 0 {
         return code;
     }
-    flying_refusal(s, threads, bank, thread)
+    flying_refusal(setting::load(setting), threads, bank, thread)
 }

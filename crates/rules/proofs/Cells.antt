@@ -79,7 +79,7 @@ all-mapFrom P f h i [] a = tt
 all-mapFrom P f h i (c ∷ cs) a = (h i c (a .0), all-mapFrom P f h (suc i) cs (a .1))
 
 -- a cell of the n cells from i on
-getD-cells : (l : List ℕ) (i n k : ℕ) → k < n → getD (cells l i n) k 0 ≡ getD l (i + k) 0
+pub getD-cells : (l : List ℕ) (i n k : ℕ) → k < n → getD (cells l i n) k 0 ≡ getD l (i + k) 0
 getD-cells l i zero k h = absurd (omega arith)
 getD-cells l i (suc n) zero h = ap (λ x. getD l x 0) (sym (add-zero i))
 getD-cells l i (suc n) (suc k) h =
@@ -88,6 +88,14 @@ getD-cells l i (suc n) (suc k) h =
 
 pub getD-first : (l : List ℕ) (n k : ℕ) → k < n → getD (cells l 0 n) k 0 ≡ getD l k 0
 getD-first l n k h = getD-cells l 0 n k h ∙ ap (λ x. getD l x 0) (zero-add k)
+
+length-cells : (l : List ℕ) (i n : ℕ) → length (cells l i n) ≡ n
+length-cells l i zero = refl
+length-cells l i (suc n) = omega (arith, length-cells l (suc i) n)
+
+-- all cells of a list
+pub cells-all : (l : List ℕ) (n : ℕ) → length l ≡ n → cells l 0 n ≡ l
+cells-all l n e = ext-getD 0 (cells l 0 n) l (length-cells l 0 n ∙ sym e) (λ i h. getD-first l n i (omega (arith, length-cells l 0 n)))
 
 -- a thread's three cells are within the used part
 pub thread-in : (s : Setting) (bank thread k : ℕ) → bank < s .banks → thread < s .threads → k < 3 → threadCell s bank thread k < threadsUsed s

@@ -1,5 +1,5 @@
 -- Boolean tests: how their parts are taken apart and put together.
-use mathlib.Core.Path.{_≡_, refl, sym, subst}
+use mathlib.Core.Path.{_≡_, refl, sym, ap₂, subst}
 use mathlib.Core.Logic.{_⊎_, inl, inr}
 use mathlib.Core.Bool.{Bool, true, false, not, _&&_, _||_, cond}
 use Prim.Native.Nat.{ℕ, zero, suc, _<_}
@@ -98,3 +98,8 @@ every-at (suc n) p h i k = go (ℕ-discrete i n) (every-at n p (and-l (every n p
 pub every-all : (n : ℕ) (p : ℕ → Bool) → ((i : ℕ) → i < n → T (p i)) → T (every n p)
 every-all zero p f = tt
 every-all (suc n) p f = and-i (every n p) (p n) (every-all n p (λ i k. f i (omega arith))) (f n (omega arith))
+
+-- tests that agree below n
+pub every-same : (n : ℕ) (p q : ℕ → Bool) → ((i : ℕ) → i < n → q i ≡ p i) → every n q ≡ every n p
+every-same zero p q h = refl
+every-same (suc n) p q h = ap₂ (λ x y. x && y) (every-same n p q (λ i k. h i (omega arith))) (h n (omega arith))

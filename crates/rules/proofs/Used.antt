@@ -25,7 +25,7 @@ use Rattle.rules.specs.Decision.{passed, quotaRule, bankRule, rankRule, 
 use Rattle.rules.specs.Tested.{Long, Taken}
 use Rattle.rules.specs.Calls.{Call, request, done, index, refused, shown, Outcome, outcome, callRefusal, doneRefusal, callTick, callBank, callThread, refusalOf, unlessRefused, afterAnswer, requested, reported, indexShown, performed, step, replies, after}
 use Rattle.rules.specs.Claims.{UsedFlying, SameUsed, withLimits, SameReplies}
-use Rattle.rules.proofs.Tests.{holds, fails}
+use Rattle.rules.proofs.Tests.{holds, fails, every-same}
 use Rattle.rules.proofs.Cells.{thread-in}
 use Rattle.rules.proofs.Clearing.{clear-kept, clear-zero}
 use Rattle.rules.proofs.Places.{places-within}
@@ -36,11 +36,6 @@ use Rattle.rules.proofs.Memory.{memory, turned-long, activated-long, re
 use Rattle.rules.proofs.Sound.{long-not-short}
 
 -- ---- cells
-
--- tests that agree below n
-every-same : (n : ℕ) (p q : ℕ → Bool) → ((i : ℕ) → i < n → q i ≡ p i) → every n q ≡ every n p
-every-same zero p q h = refl
-every-same (suc n) p q h = ap₂ (λ x y. x && y) (every-same n p q (λ i k. h i (omega arith))) (h n (omega arith))
 
 clear-cell : (p : ℕ → Bool) (i : ℕ) (a b : List ℕ) → getD b i 0 ≡ getD a i 0 → getD (clearCells p b) i 0 ≡ getD (clearCells p a) i 0
 clear-cell p i a b e = go (p i) refl

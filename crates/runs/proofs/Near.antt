@@ -16,7 +16,7 @@ or-below : (a b : ℕ) → a ≤ bitOr a b
 or-below a b = omega (arith, or-add-and a b, and-le-r a b)
 
 -- both parts of an or are below a bound that the or is below
-or-parts : (a b n : ℕ) → bitOr a b < n → (a < n) × (b < n)
+pub or-parts : (a b n : ℕ) → bitOr a b < n → (a < n) × (b < n)
 or-parts a b n h = (lt-of-le-of-lt (or-below a b) h, lt-of-le-of-lt (or-below b a) (rw or-comm h))
 
 -- k differences below 2^58, from the cell at i on: none wrapped, or the cell reached lies a whole word below their sum

@@ -1,13 +1,15 @@
 -- What an exported call leaves, refused or not.
 use Prim.Native.Nat.{ℕ, _-_}
-use mathlib.Core.Path.{_≡_, sym, ap, ap₂, _∙_}
+use mathlib.Core.Path.{_≡_, refl, sym, ap, _∙_}
 use mathlib.Core.Logic.{_≢_}
 use mathlib.Core.List.{List, [], _∷_}
+use mathlib.Core.Bool.{false}
 use lib.ListN.{length}
 use Rattle.rules.specs.declared.Limits.{Limits}
 use Rattle.rules.specs.declared.Setting.{Setting}
 use Rattle.rules.specs.declared.Head.{Head}
 use Rattle.rules.specs.declared.Answer.{Answer}
+use Rattle.rules.specs.declared.Answer.the-variants.{Opened, Wait, Quota}
 use Rattle.rules.specs.Answers.{Refusal, refusalNumber, answerNumber, answerWait}
 use Rattle.rules.specs.Setting.{indexScale}
 use Rattle.rules.specs.State.{State, countersUsed, threadsUsed, headOf, headWords, fresh}
@@ -15,10 +17,11 @@ use Rattle.rules.specs.Clock.{epoch, activeFilter, turnedCounters, turnedThread
 use Rattle.rules.specs.Hash.{places}
 use Rattle.rules.specs.Quota.{indexCounter}
 use Rattle.rules.specs.Policy.{limits01, narrow}
-use Rattle.rules.specs.Calls.{request, done, index, answered, finished, Outcome, outcome, oneLess, setup, setupRefusal, callRefusal, doneRefusal, unlessRefused, requested, reported, indexShown, step}
+use Rattle.rules.specs.Decision.{decide, activated}
+use Rattle.rules.specs.Calls.{request, done, index, Reply, refused, answered, finished, shown, afterAnswer, Outcome, outcome, oneLess, setup, setupRefusal, callRefusal, doneRefusal, unlessRefused, requested, reported, indexShown, step}
 use Rattle.rules.proofs.Step.{unless-taken, unless-refused}
-use Rattle.refusal.specs.Tests.{callTest}
-use Rattle.refusal.proofs.Refusals.{call-test}
+use Rattle.refusal.specs.Tests.{lentTest, callTest, doneTest}
+use Rattle.refusal.proofs.Refusals.{setup-test, call-test, done-test, lent-setup}
 use Rattle.interface.specs.Left.{left, found, leaves}
 
 -- a refused call gives its number and leaves all as it was
@@ -29,21 +32,48 @@ unfolding leaves
 left-refused r o code out words counters ticks rows threads e h =
     rw (unless-refused r (found words counters ticks rows threads) o (λ z. h (e ∙ z)), e)
 
+-- a head whose clock was moved, by its own last tick
+pub moved-alone : (x h : Head) (t : ℕ) → h ≡ movedHead x t → h ≡ movedHead x (h .last)
+unfolding movedHead
+moved-alone x h t e = e ∙ ap (λ u. movedHead x u) (sym (ap (λ y. y .last) e))
+
+-- the number of a reply's answer
+abbrev numberOf : Reply → ℕ
+numberOf (refused r) = 0
+numberOf (answered a) = answerNumber a
+numberOf finished = 0
+numberOf (shown c scale quota) = 0
+
 -- ---- the four calls
 
 module _ (s : Setting) (seeds words counters ticks rows threads : List ℕ) where
   abbrev before : State
   before = found words counters ticks rows threads
 
-  -- the number that the tests of a request or an index reading give, from what was loaded, is that of the rules' refusal
-  pub call-code : (m : Limits) (x : Setting) (h : Head) (tick bank thread code : ℕ)
-      → code ≡ refusalNumber (callTest m x seeds h (length counters) ticks (length rows) (length threads) tick bank thread)
-      → m ≡ limits01 → x ≡ s → h ≡ headOf words → code ≡ refusalNumber (callRefusal limits01 s seeds before tick bank thread)
-  call-code m x h tick bank thread code e em ex eh =
+  -- the number that the tests of what was lent give is that of the rules' refusal: of set-up, of a request or an index reading, of a done
+  pub setup-code : (m : Limits) (code : ℕ)
+      → code ≡ refusalNumber (lentTest m s seeds (headOf words) (length counters) ticks (length rows) (length threads) false) → m ≡ limits01
+      → code ≡ refusalNumber (setupRefusal limits01 s seeds before)
+  setup-code m code e em =
       e
-      ∙ ap (λ n. refusalNumber (callTest n x seeds h (length counters) ticks (length rows) (length threads) tick bank thread)) em
-      ∙ ap₂ (λ y g. refusalNumber (callTest limits01 y seeds g (length counters) ticks (length rows) (length threads) tick bank thread)) ex eh
+      ∙ ap (λ n. refusalNumber (lentTest n s seeds (headOf words) (length counters) ticks (length rows) (length threads) false)) em
+      ∙ ap refusalNumber (lent-setup limits01 s seeds (headOf words) (length counters) ticks (length rows) (length threads) ∙ sym (setup-test limits01 s seeds before))
+
+  pub call-code : (m : Limits) (tick bank thread code : ℕ)
+      → code ≡ refusalNumber (callTest m s seeds (headOf words) (length counters) ticks (length rows) (length threads) tick bank thread) → m ≡ limits01
+      → code ≡ refusalNumber (callRefusal limits01 s seeds before tick bank thread)
+  call-code m tick bank thread code e em =
+      e
+      ∙ ap (λ n. refusalNumber (callTest n s seeds (headOf words) (length counters) ticks (length rows) (length threads) tick bank thread)) em
       ∙ ap refusalNumber (sym (call-test limits01 s seeds before tick bank thread))
+
+  pub done-code : (m : Limits) (tick bank thread code : ℕ)
+      → code ≡ refusalNumber (doneTest m s seeds (headOf words) (length counters) ticks (length rows) threads tick bank thread) → m ≡ limits01
+      → code ≡ refusalNumber (doneRefusal limits01 s seeds before tick bank thread)
+  done-code m tick bank thread code e em =
+      e
+      ∙ ap (λ n. refusalNumber (doneTest n s seeds (headOf words) (length counters) ticks (length rows) threads tick bank thread)) em
+      ∙ ap refusalNumber (sym (done-test limits01 s seeds before tick bank thread))
 
   -- set-up that is not refused
   pub left-setup : refusalNumber (setupRefusal limits01 s seeds before) ≡ 0 → (z : State) → z ≡ fresh s before
@@ -51,6 +81,23 @@ module _ (s : Setting) (seeds words counters ticks rows threads : List ℕ) wher
   unfolding leaves setup
   left-setup e z ez =
       ap (λ o. leaves o [] words) (ap (outcome finished) ez ∙ sym (unless-taken (setupRefusal limits01 s seeds before) before (outcome finished (fresh s before)) e))
+
+  -- a request that is not refused and opens no row moves the clock alone
+  pub held : (tick bank thread row : ℕ) (a : Answer) (z : State)
+      → outcome (answered a) z ≡ requested narrow s (λ f. places seeds row) (turned s before tick) bank thread row
+      → answerNumber a ≢ 0 → z .head ≡ movedHead (headOf words) (z .head .last)
+  unfolding requested turned
+  held tick bank thread row a z e n =
+      let at : ℕ → List ℕ = λ f. places seeds row in
+      let moved = turned s before tick in
+      moved-alone (headOf words) (z .head) tick
+      (ap (λ o. o .state .head) e ∙ go (decide narrow s at moved bank thread row) (λ k. n (ap (λ o. numberOf (o .reply)) e ∙ k)))
+    where
+      go : (d : Answer) → answerNumber d ≢ 0
+          → afterAnswer d (turned s before tick) (activated s (λ f. places seeds row) (turned s before tick) bank thread row) .head ≡ movedHead (headOf words) tick
+      go Opened k = absurd (k refl)
+      go (Wait c u) k = refl
+      go Quota k = refl
 
   -- a request that is not refused
   pub left-request : (tick bank thread row : ℕ) (out : List ℕ) → refusalNumber (callRefusal limits01 s seeds before tick bank thread) ≡ 0

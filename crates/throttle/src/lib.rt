@@ -2,9 +2,11 @@
 // the number of its refusal; a refused call changes nothing that was lent. Of buffers that overlap nothing is promised.
 use refusal::call_refusal;
 use refusal::done_refusal;
-use refusal::setup_refusal;
+use refusal::lent_refusal;
 use setting::narrow_limits;
 use words::load_head;
+use words::store_answered;
+use words::store_clock;
 use words::store_head;
 ghost use mathlib.Core.Path.{_≡_};
 ghost use mathlib.Core.List.{[]};
@@ -34,19 +36,21 @@ pub extern "C" fn throttle_setup(
 ) -> u32
     ensures { λ r. ⌜ left r [] (now (head .exit)) (now (counters .exit)) (now (ticks .exit)) (now (rows .exit)) (now (threads .exit)) ≡ leaves (setup limits01 (settingOf (now (setting .entry))) (now (seeds .entry)) (found (now (head .entry)) (now (counters .entry)) (now (ticks .entry)) (now (rows .entry)) (now (threads .entry)))) [] (now (head .entry)) ⌝ }
 {
-    let s = setting::load(setting);
-    let code = setup_refusal(
+    let code = lent_refusal(
         narrow_limits(),
-        s,
+        setting,
         seeds,
+        &*head,
         counters.len(),
-        ticks.len(),
+        &*ticks,
         rows.len(),
         threads.len(),
+        false,
     );
     if code != 0 {
         return code;
     }
+    let s = setting::load(setting);
     store_head(narrow::fresh(s, counters, ticks, rows, threads), head);
     0
 }
@@ -70,13 +74,11 @@ pub extern "C" fn throttle_request(
 ) -> u32
     ensures { λ r. ⌜ left r (now (out .exit)) (now (head .exit)) (now (counters .exit)) (now (ticks .exit)) (now (rows .exit)) (now (threads .exit)) ≡ leaves (step narrow (settingOf (now (setting .entry))) (now (seeds .entry)) (found (now (head .entry)) (now (counters .entry)) (now (ticks .entry)) (now (rows .entry)) (now (threads .entry))) (request tick bank thread row)) (now (out .entry)) (now (head .entry)) ⌝ }
 {
-    let s = setting::load(setting);
-    let h = load_head(&*head);
     let code = call_refusal(
         narrow_limits(),
-        s,
+        setting,
         seeds,
-        h,
+        &*head,
         counters.len(),
         &*ticks,
         rows.len(),
@@ -88,6 +90,8 @@ pub extern "C" fn throttle_request(
     if code != 0 {
         return code;
     }
+    let s = setting::load(setting);
+    let h = load_head(&*head);
     let d = calls::request(
         s,
         seeds,
@@ -103,7 +107,7 @@ pub extern "C" fn throttle_request(
     );
     let answer = d.answer;
     let after = d.head;
-    store_head(after, head);
+    store_answered(answer, after, head);
     *out = [answer_number(answer), answer_wait(answer)];
     0
 }
@@ -125,13 +129,11 @@ pub extern "C" fn throttle_done(
 ) -> u32
     ensures { λ r. ⌜ left r [] (now (head .exit)) (now (counters .exit)) (now (ticks .exit)) (now (rows .exit)) (now (threads .exit)) ≡ leaves (step narrow (settingOf (now (setting .entry))) (now (seeds .entry)) (found (now (head .entry)) (now (counters .entry)) (now (ticks .entry)) (now (rows .entry)) (now (threads .entry))) (done tick bank thread)) [] (now (head .entry)) ⌝ }
 {
-    let s = setting::load(setting);
-    let h = load_head(&*head);
     let code = done_refusal(
         narrow_limits(),
-        s,
+        setting,
         seeds,
-        h,
+        &*head,
         counters.len(),
         &*ticks,
         rows.len(),
@@ -143,7 +145,9 @@ pub extern "C" fn throttle_done(
     if code != 0 {
         return code;
     }
-    store_head(
+    let s = setting::load(setting);
+    let h = load_head(&*head);
+    store_clock(
         calls::done(s, h, counters, threads, tick, bank, thread),
         head,
     );
@@ -168,13 +172,11 @@ pub extern "C" fn throttle_index(
 ) -> u32
     ensures { λ r. ⌜ left r (now (out .exit)) (now (head .exit)) (now (counters .exit)) (now (ticks .exit)) (now (rows .exit)) (now (threads .exit)) ≡ leaves (step narrow (settingOf (now (setting .entry))) (now (seeds .entry)) (found (now (head .entry)) (now (counters .entry)) (now (ticks .entry)) (now (rows .entry)) (now (threads .entry))) (index tick bank thread)) (now (out .entry)) (now (head .entry)) ⌝ }
 {
-    let s = setting::load(setting);
-    let h = load_head(&*head);
     let refusal = call_refusal(
         narrow_limits(),
-        s,
+        setting,
         seeds,
-        h,
+        &*head,
         counters.len(),
         &*ticks,
         rows.len(),
@@ -186,9 +188,11 @@ pub extern "C" fn throttle_index(
     if refusal != 0 {
         return refusal;
     }
+    let s = setting::load(setting);
+    let h = load_head(&*head);
     let x = calls::index(s, h, counters, threads, tick, bank, thread);
     let after = x.head;
-    store_head(after, head);
+    store_clock(after, head);
     *out = [x.c, x.scale, x.quota];
     0
 }

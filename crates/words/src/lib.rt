@@ -3,7 +3,9 @@ use rules::Answer;
 use rules::Cause;
 use rules::Head;
 ghost use mathlib.Core.Path.{_≡_};
+ghost use mathlib.Core.Logic.{_≢_};
 ghost use Rattle.rules.specs.State.{headOf, headWords};
+ghost use Rattle.rules.specs.Clock.{movedHead};
 ghost use Rattle.rules.specs.Answers.{causeNumber, answerNumber, answerWait};
 
 // The head that the 22 words of the caller hold.
@@ -67,6 +69,37 @@ pub fn store_head(h: Head, words: &mut [u64; 22])
     ];
 }
 
+// Stores a head of which the clock alone has moved: the other words hold it already. The compiler leaves out a word that is stored where it was read.
+pub fn store_clock(h: Head, words: &mut [u64; 22])
+    requires { ⌜ h ≡ movedHead (headOf (now words)) (h .last) ⌝ }
+    ensures { λ _. ⌜ now (words .exit) ≡ headWords h ⌝ }
+{
+    *words = [
+        h.last,
+        words[1],
+        words[2],
+        words[3],
+        words[4],
+        words[5],
+        words[6],
+        words[7],
+        words[8],
+        words[9],
+        words[10],
+        words[11],
+        words[12],
+        words[13],
+        words[14],
+        words[15],
+        words[16],
+        words[17],
+        words[18],
+        words[19],
+        words[20],
+        words[21],
+    ];
+}
+
 fn cause_number(c: Cause) -> u64
     ensures { λ r. ⌜ r ≡ causeNumber c ⌝ }
 {
@@ -97,4 +130,16 @@ pub fn answer_wait(a: Answer) -> u64
         Answer::Wait { cause: _, until } => until,
         Answer::Quota => 0,
     }
+}
+
+// Stores the head after an answer: all of it where the row is opened, else the clock, which alone has moved.
+pub fn store_answered(a: Answer, h: Head, words: &mut [u64; 22])
+    requires { ⌜ (answerNumber a ≢ 0 → h ≡ movedHead (headOf (now words)) (h .last)) ⌝ }
+    ensures { λ _. ⌜ now (words .exit) ≡ headWords h ⌝ }
+{
+    if answer_number(a) == 0 {
+        store_head(h, words);
+        return;
+    }
+    store_clock(h, words);
 }

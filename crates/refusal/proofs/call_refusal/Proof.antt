@@ -1,70 +1,66 @@
--- `call_refusal` gives the refusals of set-up, then 7, then 8 and 9.
+-- `call_refusal` gives the refusals of what is lent, then 8 and 9.
 use mathlib.Core.Path.{_≡_, sym, ap, _∙_}
-use mathlib.Core.Bool.{true, false, not}
-use borrow.Author.Tests.{not-true, not-false}
-use lib.ListN.{length}
-use Rattle.rules.specs.Answers.{Refusal, badMemory, refusalNumber, refuse}
-use Rattle.refusal.specs.Tests.{memoryTest, placeRefusal, setupTest, callTest}
-use Rattle.refusal.proofs.Refusals.{orElse-first, orElse-second, Lengths, tested-setup}
+use mathlib.Core.Bool.{true}
+use Rattle.rules.specs.declared.Setting.{Setting}
+use Rattle.rules.specs.declared.Head.{Head}
+use Rattle.rules.specs.Answers.{Refusal, refusalNumber, orElse}
+use Rattle.rules.specs.Setting.{settingOf}
+use Rattle.rules.specs.State.{headOf}
+use Rattle.refusal.specs.Tests.{placeRefusal, lentTest, callTest}
+use Rattle.refusal.proofs.Refusals.{orElse-first, orElse-second, call-parts}
 use borrow.Author.Needs.{needs}
 use Rattle.refusal.proofs.call_refusal.Statement.{statement}
 use Rattle.refusal.proofs.call_refusal.Tie as tie
 
--- refusals 1 to 6, and those after them
-abbrev front : tie.After-setup-refusal → Refusal
-front c = let a = c .before .before .before .args in setupTest (a .m) (a .s) (a .seeds .now) (a .counters) (length (a .ticks .now)) (a .rows) (a .threads)
+-- the setting and the head that lie in the words
+abbrev s : tie.Start → Setting
+s c = settingOf (c .args .setting .now)
 
-abbrev rest : tie.After-setup-refusal → Refusal
-rest c = let a = c .before .before .before .args in refuse (not (memoryTest (a .s) (a .h) (a .ticks .now))) badMemory (placeRefusal (a .s) (a .h .last) (a .tick) (a .bank) (a .thread))
+abbrev h : tie.Start → Head
+h c = headOf (c .args .head .now)
 
--- the setting is accepted and the history is long enough
-ok : (c : tie.Else1) → let a = c .before .before .before .before .args in Lengths (a .m) (a .s) (a .seeds .now) (length (a .ticks .now)) (a .threads)
-ok c =
-    let a = c .before .before .before .before .args in
-    tested-setup (a .m) (a .s) (a .seeds .now) (a .counters) (length (a .ticks .now)) (a .rows) (a .threads) (sym (c .before .setup-refusal .ensures) ∙ c .if1 .left)
+-- refusals 1 to 7, and those after them
+abbrev front : tie.Start → Refusal
+front c = let a = c .args in lentTest (a .m) (s c) (a .seeds .now) (h c) (a .counters) (a .ticks .now) (a .rows) (a .threads) true
 
--- and then 7, 8 and 9 decide
-beyond : (c : tie.Else1) → let a = c .before .before .before .before .args in
-    callTest (a .m) (a .s) (a .seeds .now) (a .h) (a .counters) (a .ticks .now) (a .rows) (a .threads) (a .tick) (a .bank) (a .thread) ≡ rest (c .before)
-unfolding callTest
-beyond c = orElse-second (front (c .before)) (rest (c .before)) (sym (c .before .setup-refusal .ensures) ∙ c .if1 .left)
+abbrev rest : tie.Start → Refusal
+rest c = let a = c .args in placeRefusal (s c) (h c .last) (a .tick) (a .bank) (a .thread)
 
-setup-refusal-requires : tie.Need-setup-refusal-requires
-setup-refusal-requires c κs = search needs
+parts : (c : tie.Start) → let a = c .args in
+    callTest (a .m) (s c) (a .seeds .now) (h c) (a .counters) (a .ticks .now) (a .rows) (a .threads) (a .tick) (a .bank) (a .thread) ≡ orElse (front c) (rest c)
+parts c = let a = c .args in call-parts (a .m) (s c) (a .seeds .now) (h c) (a .counters) (a .ticks .now) (a .rows) (a .threads) (a .tick) (a .bank) (a .thread)
+
+lent-refusal-requires : tie.Need-lent-refusal-requires
+lent-refusal-requires c κs = search needs
 
 returns : tie.Need-returns
-unfolding callTest
-returns c = c .before .setup-refusal .ensures ∙ ap refusalNumber (sym (orElse-first (front (c .before)) (rest (c .before)) (λ z. c .if1 .taken (c .before .setup-refusal .ensures ∙ z))))
+returns c =
+    c .before .lent-refusal .ensures
+    ∙ ap refusalNumber (sym (parts (c .before .before .before .before) ∙ orElse-first (front (c .before .before .before .before)) (rest (c .before .before .before .before)) (λ z. c .if1 .taken (c .before .lent-refusal .ensures ∙ z))))
 
-history-length-requires : tie.Need-history-length-requires
-history-length-requires c κs = let k = ok c .setting .ranges in (k .tfaw-low, k .tfaw-high, k .td-high)
+load-requires : tie.Need-load-requires
+load-requires c κs = search needs
 
-memory-ok-requires : tie.Need-memory-ok-requires
-memory-ok-requires c κs = let k = ok (c .before) in (k .setting .ranges .banks-high, c .history-length .ensures, rw (c .history-length .ensures) (k .ticks-long))
-
-returns-2 : tie.Need-returns-2
-returns-2 c =
-    let a = c .before .before .before .before .before .before .before .args in
-    let no : memoryTest (a .s) (a .h) (a .ticks .now) ≡ false = sym (c .before .memory-ok .ensures) ∙ not-true _ (c .if2 .taken) in
-    rw (beyond (c .before .before .before), no)
+element-copy-out-place-refusal : tie.Need-element-copy-out-place-refusal
+element-copy-out-place-refusal c = search needs
 
 place-refusal-requires : tie.Need-place-refusal-requires
 place-refusal-requires c κs = search needs
 
-returns-3 : tie.Need-returns-3
-returns-3 c =
-    let a = c .before .before .before .before .before .before .before .before .args in
-    let yes : memoryTest (a .s) (a .h) (a .ticks .now) ≡ true = sym (c .before .before .memory-ok .ensures) ∙ not-false _ (c .before .if2 .left) in
-    c .place-refusal .ensures ∙ rw (beyond (c .before .before .before .before), yes)
+returns-2 : tie.Need-returns-2
+unfolding headOf
+returns-2 c =
+    let e = c .before .before .load .ensures in
+    rw e at (c .place-refusal .ensures)
+    ∙ ap refusalNumber (sym (parts (c .before .before .before .before .before .before .before) ∙ orElse-second (front (c .before .before .before .before .before .before .before)) (rest (c .before .before .before .before .before .before .before)) (sym (c .before .before .before .before .lent-refusal .ensures) ∙ c .before .before .before .if1 .left)))
 
 pub call-refusal-spec : {M : Type 1} → statement M
 call-refusal-spec =
     tie.close
     (tie.spec
-    setup-refusal-requires
+    lent-refusal-requires
     returns
-    history-length-requires
-    memory-ok-requires
-    returns-2
+    load-requires
+    element-copy-out-place-refusal
     place-refusal-requires
-    returns-3)
+    returns-2)

@@ -1,23 +1,20 @@
 -- `throttle_done` is refused as the rules say, or is the rules' done.
-use mathlib.Core.Path.{_≡_, sym, ap, ap₂, _∙_}
+use mathlib.Core.Path.{_≡_, sym, ap, _∙_}
 use mathlib.Core.List.{[]}
 use native.Mathlib.Omega.{arith}
-use lib.ListN.{length}
 use Rattle.rules.specs.declared.Setting.{Setting}
 use Rattle.rules.specs.Answers.{none, refusalNumber}
 use Rattle.rules.specs.Setting.{settingOf}
-use Rattle.rules.specs.State.{State}
+use Rattle.rules.specs.State.{State, headOf}
 use Rattle.rules.specs.Clock.{turned}
 use Rattle.rules.specs.Policy.{limits01, narrow}
 use Rattle.rules.specs.Tested.{Taken}
 use Rattle.rules.specs.Calls.{doneRefusal, reported, step}
 use Rattle.rules.proofs.Accept.{taken, done-taken, number-none}
-use Rattle.refusal.specs.Tests.{doneTest}
-use Rattle.refusal.proofs.Refusals.{done-test}
 use Rattle.calls.proofs.Requests.{narrow-widest, bounds}
 use Rattle.calls.proofs.Flying.{some-flying}
 use Rattle.interface.specs.Left.{found}
-use Rattle.throttle.proofs.Settled.{left-refused, left-done}
+use Rattle.throttle.proofs.Settled.{left-refused, moved-alone, done-code, left-done}
 use borrow.Author.Needs.{needs}
 use Rattle.throttle.proofs.throttle_done.Statement.{statement}
 use Rattle.throttle.proofs.throttle_done.Tie as tie
@@ -30,31 +27,21 @@ abbrev s : tie.Start → Setting
 s c = settingOf (c .args .setting .now)
 
 -- the code is the number of the rules' refusal
-code-is : (c : tie.After-done-refusal) → let start = c .before .before .before .before .before .before .before .before .before .before .before .before in let a = start .args in c .done-refusal .result ≡ refusalNumber (doneRefusal limits01 (s start) (a .seeds .now) (entry start) (a .tick) (a .bank) (a .thread))
+code-is : (c : tie.After-done-refusal) → c .done-refusal .result ≡ refusalNumber (doneRefusal limits01 (s (c .before .before .before .before .before .before .before .before .before .before)) (c .before .before .before .before .before .before .before .before .before .before .args .seeds .now) (entry (c .before .before .before .before .before .before .before .before .before .before)) (c .before .before .before .before .before .before .before .before .before .before .args .tick) (c .before .before .before .before .before .before .before .before .before .before .args .bank) (c .before .before .before .before .before .before .before .before .before .before .args .thread))
 code-is c =
-    let start = c .before .before .before .before .before .before .before .before .before .before .before .before in
-    let at-load = c .before .before .before .before .before .before in
-    let at-load-head = c .before .before .before .before in
+    let start = (c .before .before .before .before .before .before .before .before .before .before) in
     let a = start .args in
-    c .done-refusal .ensures
-    ∙ ap (λ m. refusalNumber (doneTest m (at-load .load .result) (a .seeds .now) (at-load-head .load-head .result) (length (a .counters .now)) (a .ticks .now) (length (a .rows .now)) (a .threads .now) (a .tick) (a .bank) (a .thread))) (c .before .before .before .narrow-limits .ensures)
-    ∙ ap₂ (λ x h. refusalNumber (doneTest limits01 x (a .seeds .now) h (length (a .counters .now)) (a .ticks .now) (length (a .rows .now)) (a .threads .now) (a .tick) (a .bank) (a .thread))) (at-load .load .ensures) (at-load-head .load-head .ensures)
-    ∙ ap refusalNumber (sym (done-test limits01 (s start) (a .seeds .now) (entry start) (a .tick) (a .bank) (a .thread)))
+    done-code (s start) (a .seeds .now) (a .head .now) (a .counters .now) (a .ticks .now) (a .rows .now) (a .threads .now) _ (a .tick) (a .bank) (a .thread) _
+    (c .done-refusal .ensures) (c .before .before .before .before .narrow-limits .ensures)
 
-free : (c : tie.Else1) → let start = c .before .before .before .before .before .before .before .before .before .before .before .before .before in let a = start .args in doneRefusal limits01 (s start) (a .seeds .now) (entry start) (a .tick) (a .bank) (a .thread) ≡ none
+free : (c : tie.Else1) → let a = c .before .before .before .before .before .before .before .before .before .before .before .args in doneRefusal limits01 (s (c .before .before .before .before .before .before .before .before .before .before .before)) (a .seeds .now) (entry (c .before .before .before .before .before .before .before .before .before .before .before)) (a .tick) (a .bank) (a .thread) ≡ none
 free c = number-none _ (sym (code-is (c .before)) ∙ c .if1 .left)
-
-load-requires : tie.Need-load-requires
-load-requires c κs = search needs
-
-load-head-requires : tie.Need-load-head-requires
-load-head-requires c κs = search needs
 
 narrow-limits-requires : tie.Need-narrow-limits-requires
 narrow-limits-requires c κs = search needs
 
 done-refusal-requires : tie.Need-done-refusal-requires
-done-refusal-requires c κs = rw (c .before .before .narrow-limits .ensures) (omega arith)
+done-refusal-requires c κs = rw (c .before .before .before .narrow-limits .ensures) (omega arith)
 
 same-length : tie.Need-same-length
 same-length c = search needs
@@ -65,23 +52,31 @@ same-length-2 c = search needs
 returns : tie.Need-returns
 unfolding step
 returns c =
-    let start = c .before .before .before .before .before .before .before .before .before .before .before .before .before in
+    let start = (c .before .before .before .before .before .before .before .before .before .before .before) in
     let a = start .args in
     left-refused (doneRefusal limits01 (s start) (a .seeds .now) (entry start) (a .tick) (a .bank) (a .thread))
     (reported (s start) (turned (s start) (entry start) (a .tick)) (a .bank) (a .thread)) (c .before .done-refusal .result)
     [] (a .head .now) (a .counters .now) (a .ticks .now) (a .rows .now) (a .threads .now) (code-is (c .before)) (c .if1 .taken)
 
+load-requires : tie.Need-load-requires
+load-requires c κs = search needs
+
+load-head-requires : tie.Need-load-head-requires
+load-head-requires c κs = search needs
+
 done-requires : tie.Need-done-requires
 done-requires c κs =
-    let start = c .before .before .before .before .before .before .before .before .before .before .before .before .before .before .before in
+    let start = (c .before .before .before .before .before .before .before .before .before .before .before .before .before .before .before .before) in
     let a = start .args in
-    let d = done-taken limits01 (s start) (a .seeds .now) (entry start) (a .tick) (a .bank) (a .thread) (free (c .before .before)) in
+    let d = done-taken limits01 (s start) (a .seeds .now) (entry start) (a .tick) (a .bank) (a .thread) (free (c .before .before .before .before .before)) in
     let k : Taken limits01 (s start) (a .seeds .now) (entry start) (a .tick) (a .bank) (a .thread) =
     taken limits01 (s start) (a .seeds .now) (entry start) (a .tick) (a .bank) (a .thread) (d .0) in
-    rw (c .before .before .before .before .before .before .before .before .before .load .ensures, c .before .before .before .before .before .before .before .load-head .ensures) (bounds narrow-widest (k .setting), k .long .counters, k .long .threads, k .bank-in, k .thread-in, some-flying _ (d .1), k .later)
+    rw (c .before .before .before .before .load .ensures, c .before .before .load-head .ensures) (bounds narrow-widest (k .setting), k .long .counters, k .long .threads, k .bank-in, k .thread-in, some-flying _ (d .1), k .later)
 
-store-head-requires : tie.Need-store-head-requires
-store-head-requires c κs = search needs
+store-clock-requires : tie.Need-store-clock-requires
+store-clock-requires c κs =
+    let a = c .before .before .before .before .before .before .before .before .before .before .before .before .before .before .before .before .before .before .before .before .before .before .args in
+    moved-alone (headOf (a .head .now)) (c .before .before .before .before .before .done .result) (a .tick) (rw (c .before .before .before .before .before .before .before .before .load-head .ensures) at (c .before .before .before .before .before .done .ensures .0))
 
 same-length-3 : tie.Need-same-length-3
 same-length-3 c = search needs
@@ -94,27 +89,27 @@ same-length-5 c = search needs
 
 returns-2 : tie.Need-returns-2
 returns-2 c =
-    let start = c .before .before .before .before .before .before .before .before .before .before .before .before .before .before .before .before .before .before .before .before .before .before in
+    let start = (c .before .before .before .before .before .before .before .before .before .before .before .before .before .before .before .before .before .before .before .before .before .before .before) in
     let a = start .args in
     let q = c .before .before .before .before .before .before .done in
-    let e = rw (c .before .before .before .before .before .before .before .before .before .before .before .before .before .before .before .before .load .ensures, c .before .before .before .before .before .before .before .before .before .before .before .before .before .before .load-head .ensures) at (q .ensures) in
-    rw (c .store-head .ensures)
+    let e = rw (c .before .before .before .before .before .before .before .before .before .before .before .load .ensures, c .before .before .before .before .before .before .before .before .before .load-head .ensures) at (q .ensures) in
+    rw (c .store-clock .ensures)
     (left-done (s start) (a .seeds .now) (a .head .now) (a .counters .now) (a .ticks .now) (a .rows .now) (a .threads .now)
-    (a .tick) (a .bank) (a .thread) (ap refusalNumber (free (c .before .before .before .before .before .before .before .before .before))) (q .result) (q .last .1 .1 .0) (q .last .1 .1 .1 .0) (e .0) (e .1) (e .2))
+    (a .tick) (a .bank) (a .thread) (ap refusalNumber (free (c .before .before .before .before .before .before .before .before .before .before .before .before))) (q .result) (q .last .1 .1 .0) (q .last .1 .1 .1 .0) (e .0) (e .1) (e .2))
 
 pub throttle-done-spec : {M : Type 1} → statement M
 throttle-done-spec =
     tie.close
     (tie.spec
-    load-requires
-    load-head-requires
     narrow-limits-requires
     done-refusal-requires
     same-length
     same-length-2
     returns
+    load-requires
+    load-head-requires
     done-requires
-    store-head-requires
+    store-clock-requires
     same-length-3
     same-length-4
     same-length-5

@@ -8,10 +8,10 @@ use Rattle.rules.specs.State.{State, state}
 use Rattle.rules.specs.Clock.{turned}
 use Rattle.rules.specs.Hash.{places}
 use Rattle.rules.specs.Policy.{limits01, narrow}
-use Rattle.rules.specs.Calls.{callRefusal, requested, step}
+use Rattle.rules.specs.Calls.{answered, outcome, callRefusal, requested, step}
 use Rattle.rules.proofs.Accept.{number-none}
 use Rattle.interface.specs.Left.{found}
-use Rattle.throttle.proofs.Settled.{call-code, left-refused, left-request}
+use Rattle.throttle.proofs.Settled.{left-refused, call-code, held, left-request}
 use borrow.Author.Needs.{needs}
 use Rattle.throttle.proofs.throttle_request.Statement.{statement}
 use Rattle.throttle.proofs.throttle_request.Tie as tie
@@ -24,29 +24,31 @@ abbrev s : tie.Start → Setting
 s c = settingOf (c .args .setting .now)
 
 -- the code is the number of the rules' refusal
-code-is : (c : tie.After-call-refusal) → let start = c .before .before .before .before .before .before .before .before .before .before .before in let a = start .args in c .call-refusal .result ≡ refusalNumber (callRefusal limits01 (s start) (a .seeds .now) (entry start) (a .tick) (a .bank) (a .thread))
+code-is : (c : tie.After-call-refusal) → c .call-refusal .result ≡ refusalNumber (callRefusal limits01 (s (c .before .before .before .before .before .before .before .before .before)) (c .before .before .before .before .before .before .before .before .before .args .seeds .now) (entry (c .before .before .before .before .before .before .before .before .before)) (c .before .before .before .before .before .before .before .before .before .args .tick) (c .before .before .before .before .before .before .before .before .before .args .bank) (c .before .before .before .before .before .before .before .before .before .args .thread))
 code-is c =
-    let start = c .before .before .before .before .before .before .before .before .before .before .before in
-    let at-load = c .before .before .before .before .before in
-    let at-load-head = c .before .before .before in
+    let start = (c .before .before .before .before .before .before .before .before .before) in
     let a = start .args in
-    call-code (s start) (a .seeds .now) (a .head .now) (a .counters .now) (a .ticks .now) (a .rows .now) (a .threads .now) _ _ _ (a .tick) (a .bank) (a .thread) _
-    (c .call-refusal .ensures) (c .before .before .narrow-limits .ensures) (at-load .load .ensures) (at-load-head .load-head .ensures)
+    call-code (s start) (a .seeds .now) (a .head .now) (a .counters .now) (a .ticks .now) (a .rows .now) (a .threads .now) _ (a .tick) (a .bank) (a .thread) _
+    (c .call-refusal .ensures) (c .before .before .before .narrow-limits .ensures)
 
-taken : (c : tie.Else1) → let start = c .before .before .before .before .before .before .before .before .before .before .before .before in let a = start .args in callRefusal limits01 (s start) (a .seeds .now) (entry start) (a .tick) (a .bank) (a .thread) ≡ none
+taken : (c : tie.Else1) → let a = c .before .before .before .before .before .before .before .before .before .before .args in callRefusal limits01 (s (c .before .before .before .before .before .before .before .before .before .before)) (a .seeds .now) (entry (c .before .before .before .before .before .before .before .before .before .before)) (a .tick) (a .bank) (a .thread) ≡ none
 taken c = number-none _ (sym (code-is (c .before)) ∙ c .if1 .left)
 
-load-requires : tie.Need-load-requires
-load-requires c κs = search needs
+-- the state that the request leaves
+abbrev after : tie.After-request → State
+after c = let q = c .request in state (q .result .head) (q .last .1 .1 .1 .0) (q .last .1 .1 .1 .1 .0) (q .last .1 .1 .1 .1 .1 .0) (q .last .1 .1 .1 .1 .1 .1 .0)
 
-load-head-requires : tie.Need-load-head-requires
-load-head-requires c κs = search needs
+-- what was loaded is what the words hold, so it is the rules' request
+left-by : (c : tie.After-request) → let a = c .before .before .before .before .before .before .before .before .before .before .before .before .before .before .before .before .before .before .args in
+    outcome (answered (c .request .result .answer)) (after c)
+    ≡ requested narrow (s (c .before .before .before .before .before .before .before .before .before .before .before .before .before .before .before .before .before .before)) (λ f. places (a .seeds .now) (a .row)) (turned (s (c .before .before .before .before .before .before .before .before .before .before .before .before .before .before .before .before .before .before)) (entry (c .before .before .before .before .before .before .before .before .before .before .before .before .before .before .before .before .before .before)) (a .tick)) (a .bank) (a .thread) (a .row)
+left-by c = rw (c .before .before .before .before .before .before .before .load .ensures, c .before .before .before .before .before .load-head .ensures) at (c .request .ensures .0)
 
 narrow-limits-requires : tie.Need-narrow-limits-requires
 narrow-limits-requires c κs = search needs
 
 call-refusal-requires : tie.Need-call-refusal-requires
-call-refusal-requires c κs = rw (c .before .narrow-limits .ensures) (omega arith)
+call-refusal-requires c κs = rw (c .before .before .narrow-limits .ensures) (omega arith)
 
 same-length : tie.Need-same-length
 same-length c = search needs
@@ -54,17 +56,27 @@ same-length c = search needs
 returns : tie.Need-returns
 unfolding step
 returns c =
-    let start = c .before .before .before .before .before .before .before .before .before .before .before .before in
+    let start = (c .before .before .before .before .before .before .before .before .before .before) in
     let a = start .args in
     left-refused (callRefusal limits01 (s start) (a .seeds .now) (entry start) (a .tick) (a .bank) (a .thread))
     (requested narrow (s start) (λ f. places (a .seeds .now) (a .row)) (turned (s start) (entry start) (a .tick)) (a .bank) (a .thread) (a .row)) (c .before .call-refusal .result)
     (a .out .now) (a .head .now) (a .counters .now) (a .ticks .now) (a .rows .now) (a .threads .now) (code-is (c .before)) (c .if1 .taken)
 
-request-requires : tie.Need-request-requires
-request-requires c κs = rw (c .before .before .before .before .before .before .before .before .before .before .load .ensures, c .before .before .before .before .before .before .before .before .load-head .ensures) (taken (c .before .before .before .before))
+load-requires : tie.Need-load-requires
+load-requires c κs = search needs
 
-store-head-requires : tie.Need-store-head-requires
-store-head-requires c κs = search needs
+load-head-requires : tie.Need-load-head-requires
+load-head-requires c κs = search needs
+
+request-requires : tie.Need-request-requires
+request-requires c κs = rw (c .before .before .before .before .before .before .load .ensures, c .before .before .before .before .load-head .ensures) (taken (c .before .before .before .before .before .before .before))
+
+store-answered-requires : tie.Need-store-answered-requires
+store-answered-requires c κs =
+    let start = (c .before .before .before .before .before .before .before .before .before .before .before .before .before .before .before .before .before .before .before .before .before .before .before .before .before .before .before .before) in
+    let a = start .args in
+    held (s start) (a .seeds .now) (a .head .now) (a .counters .now) (a .ticks .now) (a .rows .now) (a .threads .now)
+    (a .tick) (a .bank) (a .thread) (a .row) (c .before .before .before .before .before .before .before .before .before .before .request .result .answer) (after (c .before .before .before .before .before .before .before .before .before .before)) (left-by (c .before .before .before .before .before .before .before .before .before .before))
 
 answer-number-requires : tie.Need-answer-number-requires
 answer-number-requires c κs = search needs
@@ -86,26 +98,24 @@ same-length-5 c = search needs
 
 returns-2 : tie.Need-returns-2
 returns-2 c =
-    let start = c .before .before .before .before .before .before .before .before .before .before .before .before .before .before .before .before .before .before .before .before .before .before .before .before .before .before .before .before .before .before .before in
+    let start = (c .before .before .before .before .before .before .before .before .before .before .before .before .before .before .before .before .before .before .before .before .before .before .before .before .before .before .before .before .before .before .before .before) in
     let a = start .args in
-    let q = c .before .before .before .before .before .before .before .before .before .before .before .before .before .before .request in
-    let z = state (q .result .head) (q .last .1 .1 .1 .0) (q .last .1 .1 .1 .1 .0) (q .last .1 .1 .1 .1 .1 .0) (q .last .1 .1 .1 .1 .1 .1 .0) in
-    rw (c .before .before .before .store-head .ensures, c .before .before .answer-number .ensures, c .before .answer-wait .ensures)
+    rw (c .before .before .before .store-answered .ensures, c .before .before .answer-number .ensures, c .before .answer-wait .ensures)
     (left-request (s start) (a .seeds .now) (a .head .now) (a .counters .now) (a .ticks .now) (a .rows .now) (a .threads .now)
-    (a .tick) (a .bank) (a .thread) (a .row) (a .out .now) (ap refusalNumber (taken (c .before .before .before .before .before .before .before .before .before .before .before .before .before .before .before .before .before .before .before))) (q .result .answer) z (rw (c .before .before .before .before .before .before .before .before .before .before .before .before .before .before .before .before .before .before .before .before .before .before .before .before .before .load .ensures, c .before .before .before .before .before .before .before .before .before .before .before .before .before .before .before .before .before .before .before .before .before .before .before .load-head .ensures) at (q .ensures .0)))
+    (a .tick) (a .bank) (a .thread) (a .row) (a .out .now) (ap refusalNumber (taken (c .before .before .before .before .before .before .before .before .before .before .before .before .before .before .before .before .before .before .before .before .before .before))) (c .before .before .before .before .before .before .before .before .before .before .before .before .before .before .request .result .answer) (after (c .before .before .before .before .before .before .before .before .before .before .before .before .before .before)) (left-by (c .before .before .before .before .before .before .before .before .before .before .before .before .before .before)))
 
 pub throttle-request-spec : {M : Type 1} → statement M
 throttle-request-spec =
     tie.close
     (tie.spec
-    load-requires
-    load-head-requires
     narrow-limits-requires
     call-refusal-requires
     same-length
     returns
+    load-requires
+    load-head-requires
     request-requires
-    store-head-requires
+    store-answered-requires
     answer-number-requires
     answer-wait-requires
     same-length-2

@@ -1,0 +1,92 @@
+-- The test of the head's stored ticks, in the words where they lie: one by one, and by or-ed differences.
+use Prim.Native.Nat.{ℕ, _+_, _%_, _^_, _≤_, _<_}
+use mathlib.Core.Path.{_≡_, sym, ap, ap₂, _∙_}
+use mathlib.Core.List.{List}
+use mathlib.Core.Bool.{Bool, true, false, _&&_}
+use native.Mathlib.Omega.{arith}
+use native.Mathlib.Nat.{mod-eq-of-lt, mod-le}
+use lib.Dec.{T, ltb}
+use lib.Bits.{bitOr}
+use lib.ListN.{getD}
+use Rattle.rules.specs.declared.Setting.{Setting}
+use Rattle.rules.specs.Cells.{every}
+use Rattle.rules.specs.State.{headOf}
+use Rattle.rules.specs.Setting.{historyLength}
+use Rattle.rules.specs.History.{notAfter, neverRises}
+use Rattle.rules.proofs.Tests.{and-assoc, holds, is-true, every-at, every-all, every-same}
+use Rattle.rules.proofs.Cells.{getD-cells}
+use Rattle.rules.proofs.Memory.{after-not}
+use Rattle.runs.proofs.Near.{or-parts}
+use Rattle.refusal.specs.Tests.{wordsPast, memoryTest}
+use Rattle.refusal.proofs.Refusals.{every-none, every-more, every-stops, inRing, banksPast, rankPast, historyOk, memory-tests}
+
+-- ---- one by one
+
+module _ (words : List ℕ) (i : ℕ) where
+  abbrev one : ℕ → Bool
+  one k = notAfter (getD words 0 0) (getD words (i + k) 0)
+
+  pub past-none : wordsPast words i 0 ≡ true
+  unfolding wordsPast
+  past-none = every-none one
+
+  pub past-more : (k : ℕ) → wordsPast words i k ≡ true → one k ≡ true → wordsPast words i (k + 1) ≡ true
+  unfolding wordsPast
+  past-more k a b = every-more k one a b
+
+  pub past-stops : (n k : ℕ) → k < n → one k ≡ false → wordsPast words i n ≡ false
+  unfolding wordsPast
+  past-stops n k h e = every-stops n k one h e
+
+-- a part of the words that hold no later tick
+pub past-part : (words : List ℕ) (i n j m : ℕ) → wordsPast words i n ≡ true → j + m ≤ n → wordsPast words (i + j) m ≡ true
+unfolding wordsPast
+past-part words i n j m e h = is-true (every m (one words (i + j))) (every-all m (one words (i + j)) (λ k l. at k l))
+  where
+    at : (k : ℕ) → k < m → T (one words (i + j) k)
+    at k l =
+        let z : i + (j + k) ≡ i + j + k = omega arith in
+        rw z at (every-at n (one words i) (holds (every n (one words i)) e) (j + k) (omega arith))
+
+-- ---- by or-ed differences
+
+-- one word more: `all` is the or so far, d what the stored tick leaves of the limit, that is the last tick plus one
+pub quick-more : (words : List ℕ) (k all d limit : ℕ) → (all < 2 ^ 63 → wordsPast words 2 k ≡ true)
+    → limit ≡ (getD words 0 0 + 1) % 2 ^ 64 → (d + getD words (2 + k) 0) % 2 ^ 64 ≡ limit
+    → bitOr (bitOr all (getD words (2 + k) 0)) d < 2 ^ 63 → wordsPast words 2 (k + 1) ≡ true
+quick-more words k all d limit f el e h =
+    let stored = getD words (2 + k) 0 in
+    let o = or-parts (bitOr all stored) d (2 ^ 63) h in
+    let q = or-parts all stored (2 ^ 63) (o .0) in
+    let whole : (d + stored) % 2 ^ 64 ≡ d + stored = mod-eq-of-lt (omega (arith, o .1, q .1)) in
+    let most = mod-le (getD words 0 0 + 1) (2 ^ 64) in
+    let low : stored ≤ getD words 0 0 + 1 = omega (arith, sym whole ∙ e ∙ el, most) in
+    past-more words 2 k (f (q .0)) (is-true (one words 2 k) (after-not (getD words 0 0) stored low))
+
+-- ---- the head that the words hold
+
+module _ (s : Setting) (words ticks : List ℕ) where
+  pub banks-words : s .banks ≤ 16 → banksPast s (headOf words) ticks ≡ wordsPast words 2 (s .banks)
+  unfolding wordsPast headOf
+  banks-words h =
+      every-same (s .banks) (one words 2) (λ b. notAfter (headOf words .last) (getD (headOf words .bank) b 0))
+      (λ b k. ap (notAfter (getD words 0 0)) (getD-cells words 2 16 b (omega arith)))
+
+  pub rank-words : rankPast s (headOf words) ticks ≡ wordsPast words 18 4
+  unfolding wordsPast headOf
+  rank-words =
+      every-same 4 (one words 18) (λ k. notAfter (headOf words .last) (getD (headOf words .rank) k 0))
+      (λ k h. ap (notAfter (getD words 0 0)) (getD-cells words 18 4 k h))
+
+  -- refusal 7 does not apply, by the words
+  pub memory-words : s .banks ≤ 16
+      → memoryTest s (headOf words) ticks
+      ≡ (ltb (getD words 1 0) (historyLength s)
+      && ((wordsPast words 2 (s .banks) && wordsPast words 18 4)
+      && (every (historyLength s) (λ p. notAfter (getD words 0 0) (getD ticks p 0)) && neverRises (historyLength s) (getD words 1 0) ticks)))
+  unfolding headOf
+  memory-words h =
+      let rest = historyOk s (headOf words) ticks in
+      memory-tests s (headOf words) ticks
+      ∙ ap (λ x. inRing s (headOf words) ticks && x)
+      (ap₂ (λ b r. b && (r && rest)) (banks-words h) rank-words ∙ sym (and-assoc (wordsPast words 2 (s .banks)) (wordsPast words 18 4) rest))
