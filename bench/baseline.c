@@ -4,6 +4,7 @@
  * for any contents of the memory. See baseline.h for the names.
  */
 #include "baseline.h"
+#include "baseline_history.h"
 
 #include <string.h>
 
@@ -92,49 +93,6 @@ static int too_short(const struct rules *r, size_t counters_len, size_t ticks_le
 {
     return counters_len < (size_t)r->banks * BANK_COUNTERS || ticks_len < r->history ||
            rows_len < r->history || threads_len < (size_t)r->banks * r->threads * 3;
-}
-
-/* A stored tick, 0 for none, is after the last tick. */
-static int after(uint64_t stored, uint64_t last)
-{
-    return stored != 0 && stored - 1 > last;
-}
-
-/* The top bit is clear only if none of the n cells from x on is above the cell after it. */
-static uint64_t falls(const uint64_t *x, size_t n)
-{
-    uint64_t bits = 0;
-    for (size_t i = 0; i < n; i++)
-        bits |= (x[i + 1] - x[i]) | x[i];
-    return bits;
-}
-
-/* One of the n cells from x on is above the cell after it. */
-static int falls_exactly(const uint64_t *x, size_t n)
-{
-    for (size_t i = 0; i < n; i++)
-        if (x[i] > x[i + 1])
-            return 1;
-    return 0;
-}
-
-/*
- * The history is unsound: read from the oldest place (the next one to be
- * written) on, around the ring, a stored tick is above the one after it, or
- * the newest is after the last tick. No other tick is then after the last.
- */
-static int history_unsound(const uint64_t *ticks, size_t h, size_t place, uint64_t last)
-{
-    uint64_t newest = ticks[(place == 0 ? h : place) - 1];
-    size_t young = place == 0 ? 0 : place - 1;
-    if (after(newest, last))
-        return 1;
-    if (place != 0 && ticks[h - 1] > ticks[0])
-        return 1;
-    uint64_t bits = falls(ticks + place, h - 1 - place) | falls(ticks, young);
-    if (bits >> 63 == 0)
-        return 0;
-    return falls_exactly(ticks + place, h - 1 - place) || falls_exactly(ticks, young);
 }
 
 /* Refusal 7. */
