@@ -95,18 +95,40 @@ static int too_short(const struct rules *r, size_t counters_len, size_t ticks_le
            rows_len < r->history || threads_len < (size_t)r->banks * r->threads * 3;
 }
 
-/* Refusal 7. */
+/* The n stored ticks from x on and their distances to the tick after the last, or-ed. */
+static uint64_t distances(const uint64_t *x, size_t n, uint64_t last)
+{
+    uint64_t bits = 0;
+    for (size_t i = 0; i < n; i++)
+        bits |= x[i] | (last + 1 - x[i]);
+    return bits;
+}
+
+/* One of the n stored ticks from x on is after the last tick. */
+static int any_after(const uint64_t *x, size_t n, uint64_t last)
+{
+    for (size_t i = 0; i < n; i++)
+        if (after(x[i], last))
+            return 1;
+    return 0;
+}
+
+/*
+ * Refusal 7. Where the last tick, the stored ticks of banks and rank and their
+ * distances are below 2^62, none of these is after the last; else they are
+ * compared.
+ */
 static int memory_unsound(const struct rules *r, const uint64_t head[22], const uint64_t *ticks)
 {
     uint64_t last = head[0];
-    int late = 0;
     if (head[1] >= r->history)
         return 1;
-    for (size_t b = 0; b < r->banks; b++)
-        late |= after(head[BANK_HEAD + b], last);
-    for (size_t k = 0; k < 4; k++)
-        late |= after(head[RANK_HEAD + k], last);
-    return late || history_unsound(ticks, r->history, head[1], last);
+    uint64_t bits = last | distances(head + BANK_HEAD, r->banks, last) |
+                    distances(head + RANK_HEAD, 4, last);
+    if (bits >> 62 != 0 && (any_after(head + BANK_HEAD, r->banks, last) ||
+                            any_after(head + RANK_HEAD, 4, last)))
+        return 1;
+    return history_unsound(ticks, r->history, head[1], last);
 }
 
 /* Refusals 1 to 9 of a call with a tick, a bank and a thread. */
