@@ -11,11 +11,8 @@
 #ifndef BASE_PREFIX
 #define BASE_PREFIX base
 #endif
-#define JOIN_WORDS(prefix, call) prefix##_##call
-#define JOIN(prefix, call) JOIN_WORDS(prefix, call)
-#define DECLARE(prefix) BASE_DECLARE(prefix)
 
-DECLARE(BASE_PREFIX);
+BASE_DECLARE(BASE_PREFIX);
 
 enum { FILTER = 1024, BANK_COUNTERS = 2 * FILTER, BANK_HEAD = 2, RANK_HEAD = 18, IN_FLIGHT = 2 };
 
@@ -301,7 +298,7 @@ static uint64_t later(uint64_t stored, uint64_t gap)
     return stored == 0 ? 0 : stored - 1 + gap;
 }
 
-uint32_t JOIN(BASE_PREFIX, setup)(BASE_STATE)
+uint32_t BASE_NAME(BASE_PREFIX, setup)(BASE_STATE)
 {
     struct rules r;
     uint32_t refused = setting_refusal(setting, seeds, seeds_len, &r);
@@ -317,8 +314,8 @@ uint32_t JOIN(BASE_PREFIX, setup)(BASE_STATE)
     return 0;
 }
 
-uint32_t JOIN(BASE_PREFIX, request)(BASE_STATE, uint64_t tick, uint64_t bank, uint64_t thread,
-                                    uint16_t row, uint64_t out[2])
+uint32_t BASE_NAME(BASE_PREFIX, request)(BASE_STATE, uint64_t tick, uint64_t bank, uint64_t thread,
+                                         uint16_t row, uint64_t out[2])
 {
     struct rules r;
     uint16_t places[4];
@@ -351,7 +348,7 @@ uint32_t JOIN(BASE_PREFIX, request)(BASE_STATE, uint64_t tick, uint64_t bank, ui
     return 0;
 }
 
-uint32_t JOIN(BASE_PREFIX, done)(BASE_STATE, uint64_t tick, uint64_t bank, uint64_t thread)
+uint32_t BASE_NAME(BASE_PREFIX, done)(BASE_STATE, uint64_t tick, uint64_t bank, uint64_t thread)
 {
     struct rules r;
     uint32_t refused = call_refusal(BASE_GIVEN, tick, bank, thread, &r);
@@ -365,8 +362,8 @@ uint32_t JOIN(BASE_PREFIX, done)(BASE_STATE, uint64_t tick, uint64_t bank, uint6
     return 0;
 }
 
-uint32_t JOIN(BASE_PREFIX, index)(BASE_STATE, uint64_t tick, uint64_t bank, uint64_t thread,
-                                  uint64_t out[3])
+uint32_t BASE_NAME(BASE_PREFIX, index)(BASE_STATE, uint64_t tick, uint64_t bank, uint64_t thread,
+                                       uint64_t out[3])
 {
     struct rules r;
     uint32_t refused = call_refusal(BASE_GIVEN, tick, bank, thread, &r);

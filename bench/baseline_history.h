@@ -41,13 +41,17 @@ static inline int history_falls(const uint64_t *ticks, size_t h, size_t place)
 
 #else
 
-/* The differences of the n cells from x on to the cells after them, or-ed. */
+/*
+ * The differences of the n cells from x on to the cells after them, or-ed. Both
+ * halves are gone through at once, so that fewer steps wait for one another.
+ */
 static inline uint64_t differences(const uint64_t *x, size_t n)
 {
-    uint64_t bits = 0;
+    const uint64_t *y = x + n / 2;
+    uint64_t bits = n % 2 != 0 ? x[n] - x[n - 1] : 0;
 #pragma GCC unroll 4
-    for (size_t i = 0; i < n; i++)
-        bits |= x[i + 1] - x[i];
+    for (size_t i = 0; i < n / 2; i++)
+        bits |= (x[i + 1] - x[i]) | (y[i + 1] - y[i]);
     return bits;
 }
 

@@ -15,6 +15,9 @@ struct part {
 static const struct part parts[] = {
     {"fixed", run_fixed},
     {"workloads", run_workloads},
+    {"growth", run_growth},
+    {"history", run_history},
+    {"turns", run_turns},
 };
 
 enum { PARTS = sizeof parts / sizeof *parts };

@@ -2,10 +2,19 @@
 #ifndef PARTS_H
 #define PARTS_H
 
-/* Mixed traffic of a controller: the ratios of the whole. */
+/* The part of a call that does not grow with the history: each kind of call at H 8. */
+void run_fixed(void);
+
+/* Mixed traffic of a controller. */
 void run_workloads(void);
 
-/* The part of a call that does not grow with the history, kind by kind, at H 8. */
-void run_fixed(void);
+/* Each kind of call with longer histories, other numbers of banks and of threads. */
+void run_growth(void);
+
+/* The test of the history alone, in C, beside a loop that only reads the cells. */
+void run_history(void);
+
+/* An epoch's turn and a set-up. */
+void run_turns(void);
 
 #endif
