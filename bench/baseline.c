@@ -157,6 +157,14 @@ static void clear_filter(const struct rules *r, uint16_t *counters, uint32_t *th
         threads[3 * i + filter] = 0;
 }
 
+/* Clears both filters and all index counters. */
+static void clear_filters(const struct rules *r, uint16_t *counters, uint32_t *threads)
+{
+    memset(counters, 0, (size_t)r->banks * BANK_COUNTERS * sizeof *counters);
+    for (size_t i = 0; i < (size_t)r->banks * r->threads; i++)
+        threads[3 * i] = threads[3 * i + 1] = 0;
+}
+
 /* Moves the clock to the tick, clears what its epoch asks for, and returns that epoch. */
 static uint64_t move_clock(const struct rules *r, uint64_t head[22], uint16_t *counters,
                            uint32_t *threads, uint64_t tick)
@@ -165,9 +173,10 @@ static uint64_t move_clock(const struct rules *r, uint64_t head[22], uint16_t *c
     head[0] = tick;
     if (tick - old * r->epoch >= r->epoch) {
         now = tick / r->epoch;
-        clear_filter(r, counters, threads, old % 2);
         if (now - old >= 2)
-            clear_filter(r, counters, threads, (old + 1) % 2);
+            clear_filters(r, counters, threads);
+        else
+            clear_filter(r, counters, threads, old % 2);
     }
     return now;
 }

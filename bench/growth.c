@@ -33,7 +33,7 @@ static void run_lengths(void)
         for (size_t k = 0; k < SHOWN; k++)
             print_times(kind_names[k], &times[i][k]);
     }
-    printf("\nNanoseconds a cell: index readings at H less those at H 8, divided by the cells more\n\n");
+    printf("\nNanoseconds a cell: an index reading at H less one at H 8, by the cells more\n\n");
     printf("%-8s %9s %9s %18s\n", "H", "library", "gcc -O3", "-O3 -march=native");
     for (size_t i = 1; i < LENGTHS; i++) {
         const struct times *few = &times[0][READING], *many = &times[i][READING];
@@ -48,7 +48,7 @@ static void run_lengths(void)
 static void run_sizes(void)
 {
     printf("\nGrowth with banks and threads: H 8; nanoseconds a call, best of %d\n\n", ROUNDS);
-    printf("%5s %7s  %-20s %9s %9s %9s %9s %9s\n", "banks", "threads", "", "row wait", "bank wait",
+    printf("%5s %7s  %-22s %9s %9s %9s %9s %9s\n", "banks", "threads", "", "row wait", "bank wait",
            "opened", "done", "index");
     for (size_t i = 0; i < SIZES; i++) {
         const struct shape *s = &size_shapes[i];
@@ -56,7 +56,7 @@ static void run_sizes(void)
         measure_kinds(s, ROUNDS, times);
         for (size_t who = 0; who < 3; who++) {
             static const char *const names[3] = {"library", "gcc -O3", "gcc -O3 -march=native"};
-            printf("%5d %7d  %-20s", (int)s->banks, (int)s->threads, names[who]);
+            printf("%5d %7d  %-22s", (int)s->banks, (int)s->threads, names[who]);
             for (size_t k = 0; k < SHOWN; k++)
                 printf(" %9.1f", who == 0   ? times[k].ns[LIBRARY]
                                  : who == 1 ? best_o3(&times[k])

@@ -1,7 +1,7 @@
 /*
  * The baseline's test of the history by itself, and a loop that only reads the
- * same cells (an even number of them). Compiled like baseline.c, once for each processor and form; see
- * baseline.h for the names.
+ * same cells, an even number of them. Compiled like baseline.c, once for each
+ * processor and form; see baseline.h for the names.
  */
 #include "baseline.h"
 #include "baseline_history.h"

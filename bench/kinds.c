@@ -120,7 +120,8 @@ static void add_waiting(const struct shape *s)
 void measure_kinds(const struct shape *s, size_t rounds, struct times times[KINDS])
 {
     take_shape(s);
-    now = 5 * (setting[0] / 2) + 1000;
+    uint64_t epoch = setting[0] / 2;
+    now = 5 * epoch + 1000;
     random_state = 88172645463325252u;
     blacklist_marked(s);
     start_list();
@@ -129,5 +130,7 @@ void measure_kinds(const struct shape *s, size_t rounds, struct times times[KIND
         add_marked(s);
         add_waiting(s);
     }
+    if (now / epoch != 5)
+        fail("an epoch turns in the batches");
     measure(rounds, 6, times);
 }

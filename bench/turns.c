@@ -62,14 +62,15 @@ void run_turns(void)
     char name[64];
     for (size_t i = 0; i < SHAPES; i++)
         measure_turns(&shapes[i], times[i]);
-    printf("An epoch's turn in an index reading, 8 threads; nanoseconds a call, best of %d\n\n", ROUNDS);
+    printf("An epoch's turn in an index reading: 8 threads; nanoseconds a call, best of %d\n\n",
+           ROUNDS);
     print_heading("cleared");
     for (size_t i = 0; i < 2; i++)
         for (size_t k = STAYS; k <= BOTH; k++) {
             snprintf(name, sizeof name, "%s, %s", shape_names[i], turns[k]);
             print_times(name, &times[i][k]);
         }
-    printf("\nA set-up, 8 threads; nanoseconds a call, best of %d\n\n", ROUNDS);
+    printf("\nA set-up: 8 threads; nanoseconds a call, best of %d\n\n", ROUNDS);
     print_heading("setting");
     for (size_t i = 0; i < SHAPES; i++)
         print_times(shape_names[i], &times[i][SET_UP]);
