@@ -17,6 +17,7 @@ static const struct part parts[] = {
     {"workloads", run_workloads},
     {"growth", run_growth},
     {"history", run_history},
+    {"gaps", run_gaps},
     {"turns", run_turns},
 };
 

@@ -237,15 +237,15 @@ double best_native(const struct times *t)
 
 void print_heading(const char *what)
 {
-    printf("%-26s %9s %20s %20s %8s %8s\n", what, "library", "gcc -O3", "-O3 -march=native", "/ -O3",
-           "/ native");
+    printf("%-29s %9s %20s %20s %8s %8s\n", what, "library", "gcc -O3", "-O3 -march=native",
+           "/ -O3", "/ native");
 }
 
 void print_times(const char *name, const struct times *t)
 {
     const double *ns = t->ns;
     double o3 = best_o3(t), native = best_native(t);
-    printf("%-26s %9.1f %8.1f %-11s %8.1f %-11s %8.2f %8.2f\n", name, ns[LIBRARY], o3,
+    printf("%-29s %9.1f %8.1f %-11s %8.1f %-11s %8.2f %8.2f\n", name, ns[LIBRARY], o3,
            ns[O3_DIFFERENCES] <= ns[O3_COMPARES] ? "differences" : "compares", native,
            ns[NATIVE_DIFFERENCES] <= ns[NATIVE_COMPARES] ? "differences" : "compares",
            ns[LIBRARY] / o3, ns[LIBRARY] / native);

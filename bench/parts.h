@@ -14,6 +14,9 @@ void run_growth(void);
 /* The test of the history alone, in C, beside a loop that only reads the cells. */
 void run_history(void);
 
+/* Index readings with large ticks and large gaps in the history. */
+void run_gaps(void);
+
 /* An epoch's turn and a set-up. */
 void run_turns(void);
 
