@@ -1,10 +1,14 @@
-/* How the cost of a call grows with the history, the banks and the threads. */
+/*
+ * How the cost of a call grows with the history, the banks and the threads. The
+ * settings are measured one after another, in several passes, so that a busy
+ * moment of the machine does not fall on one of them alone.
+ */
 #include "kinds.h"
 #include "parts.h"
 
 #include <stdio.h>
 
-enum { ROUNDS = 30, LENGTHS = 3, SIZES = 5 };
+enum { PASSES = 4, ROUNDS = 10, LENGTHS = 3, SIZES = 5 };
 
 static const size_t lengths[LENGTHS] = {8, 888, 4096};
 
@@ -19,12 +23,22 @@ static const struct shape size_shapes[SIZES] = {
     {200, 1400000, 255, 16, 1}, {200, 1400000, 255, 16, 32},
 };
 
+/* Measures n shapes; each gets the times of its kinds of calls. */
+static void measure_shapes(const struct shape *shapes, size_t n, struct times least[][KINDS])
+{
+    struct times now[KINDS];
+    for (size_t pass = 0; pass < PASSES; pass++)
+        for (size_t i = 0; i < n; i++) {
+            measure_kinds(&shapes[i], ROUNDS, now);
+            keep_least(pass, least[i], now, KINDS);
+        }
+}
+
 static void run_lengths(void)
 {
-    static struct times times[LENGTHS][KINDS];
-    for (size_t i = 0; i < LENGTHS; i++)
-        measure_kinds(&length_shapes[i], ROUNDS, times[i]);
-    printf("Growth with H: 16 banks, 8 threads; nanoseconds a call, best of %d\n", ROUNDS);
+    struct times times[LENGTHS][KINDS];
+    measure_shapes(length_shapes, LENGTHS, times);
+    printf("Growth with H: 16 banks, 8 threads; nanoseconds a call, best of %d\n", PASSES * ROUNDS);
     for (size_t i = 0; i < LENGTHS; i++) {
         char name[32];
         snprintf(name, sizeof name, "H %zu", lengths[i]);
@@ -47,23 +61,25 @@ static void run_lengths(void)
 
 static void run_sizes(void)
 {
-    printf("\nGrowth with banks and threads: H 8; nanoseconds a call, best of %d\n\n", ROUNDS);
+    static const char *const names[3] = {"library", "gcc -O3", "gcc -O3 -march=native"};
+    struct times times[SIZES][KINDS];
+    measure_shapes(size_shapes, SIZES, times);
+    printf("\nGrowth with banks and threads: H 8; nanoseconds a call, best of %d\n\n",
+           PASSES * ROUNDS);
     printf("%5s %7s  %-22s %9s %9s %9s %9s %9s\n", "banks", "threads", "", "row wait", "bank wait",
            "opened", "done", "index");
-    for (size_t i = 0; i < SIZES; i++) {
-        const struct shape *s = &size_shapes[i];
-        struct times times[KINDS];
-        measure_kinds(s, ROUNDS, times);
+    for (size_t i = 0; i < SIZES; i++)
         for (size_t who = 0; who < 3; who++) {
-            static const char *const names[3] = {"library", "gcc -O3", "gcc -O3 -march=native"};
-            printf("%5d %7d  %-22s", (int)s->banks, (int)s->threads, names[who]);
-            for (size_t k = 0; k < SHOWN; k++)
-                printf(" %9.1f", who == 0   ? times[k].ns[LIBRARY]
-                                 : who == 1 ? best_o3(&times[k])
-                                            : best_native(&times[k]));
+            printf("%5d %7d  %-22s", (int)size_shapes[i].banks, (int)size_shapes[i].threads,
+                   names[who]);
+            for (size_t k = 0; k < SHOWN; k++) {
+                const struct times *t = &times[i][k];
+                printf(" %9.1f", who == 0   ? t->ns[LIBRARY]
+                                 : who == 1 ? best_o3(t)
+                                            : best_native(t));
+            }
             printf("\n");
         }
-    }
     printf("\n");
 }
 

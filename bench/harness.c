@@ -225,6 +225,13 @@ static double lesser(double a, double b)
     return a < b ? a : b;
 }
 
+void keep_least(size_t pass, struct times *least, const struct times *now, size_t n)
+{
+    for (size_t i = 0; i < n; i++)
+        for (size_t b = 0; b < BUILDS; b++)
+            least[i].ns[b] = pass == 0 ? now[i].ns[b] : lesser(least[i].ns[b], now[i].ns[b]);
+}
+
 double best_o3(const struct times *t)
 {
     return lesser(t->ns[O3_DIFFERENCES], t->ns[O3_COMPARES]);

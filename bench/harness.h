@@ -78,6 +78,9 @@ void end_piece(size_t class);
  */
 void measure(size_t rounds, size_t span, struct times *classes);
 
+/* Keeps the lesser of the n times of this pass and those of the passes before. */
+void keep_least(size_t pass, struct times *least, const struct times *now, size_t n);
+
 /* The heading of a table and a line of it: the better form of the baseline for each processor. */
 void print_heading(const char *what);
 void print_times(const char *name, const struct times *t);
