@@ -55,7 +55,8 @@ static size_t calls_made;
 static struct piece pieces[MOST_PIECES];
 static size_t pieces_made;
 static uint16_t seeds[THROTTLE_SEEDS];
-uint64_t setting[THROTTLE_SETTING_WORDS];
+static uint64_t words[THROTTLE_SETTING_WORDS];
+const uint64_t *setting;
 
 #define STATE(m)                                                                           \
     setting, seeds, THROTTLE_SEEDS, (m)->head, (m)->counters, THROTTLE_MOST_COUNTER_CELLS, \
@@ -97,7 +98,7 @@ void take_shape(const struct shape *shape)
         .banks = shape->banks,
         .threads = shape->threads,
     };
-    throttle_words(&s, setting);
+    setting = throttle_words(&s, words);
     for (uint64_t f = 0; f < 4; f++)
         for (uint64_t i = 0; i < 16; i++)
             seeds[16 * f + i] = (uint16_t)((37 * (i + 1) * (i + 1) + 211 * f + 89 * i * f) % 1024);

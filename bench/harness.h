@@ -51,7 +51,7 @@ struct times {
 };
 
 /* The setting in use, as nine words. */
-extern uint64_t setting[THROTTLE_SETTING_WORDS];
+extern const uint64_t *setting;
 
 _Noreturn void fail(const char *what);
 uint64_t next_random(uint64_t *x);
