@@ -4,17 +4,15 @@
  * for any contents of the memory. See baseline.h for the names.
  */
 #include "baseline.h"
+#include "baseline_history.h"
 
 #include <string.h>
 
 #ifndef BASE_PREFIX
 #define BASE_PREFIX base
 #endif
-#define JOIN_WORDS(prefix, call) prefix##_##call
-#define JOIN(prefix, call) JOIN_WORDS(prefix, call)
-#define DECLARE(prefix) BASE_DECLARE(prefix)
 
-DECLARE(BASE_PREFIX);
+BASE_DECLARE(BASE_PREFIX);
 
 enum { FILTER = 1024, BANK_COUNTERS = 2 * FILTER, BANK_HEAD = 2, RANK_HEAD = 18, IN_FLIGHT = 2 };
 
@@ -94,61 +92,40 @@ static int too_short(const struct rules *r, size_t counters_len, size_t ticks_le
            rows_len < r->history || threads_len < (size_t)r->banks * r->threads * 3;
 }
 
-/* A stored tick, 0 for none, is after the last tick. */
-static int after(uint64_t stored, uint64_t last)
-{
-    return stored != 0 && stored - 1 > last;
-}
-
-/* The top bit is clear only if none of the n cells from x on is above the cell after it. */
-static uint64_t falls(const uint64_t *x, size_t n)
+/* The n stored ticks from x on and their distances to the tick after the last, or-ed. */
+static uint64_t distances(const uint64_t *x, size_t n, uint64_t last)
 {
     uint64_t bits = 0;
     for (size_t i = 0; i < n; i++)
-        bits |= (x[i + 1] - x[i]) | x[i];
+        bits |= x[i] | (last + 1 - x[i]);
     return bits;
 }
 
-/* One of the n cells from x on is above the cell after it. */
-static int falls_exactly(const uint64_t *x, size_t n)
+/* One of the n stored ticks from x on is after the last tick. */
+static int any_after(const uint64_t *x, size_t n, uint64_t last)
 {
     for (size_t i = 0; i < n; i++)
-        if (x[i] > x[i + 1])
+        if (after(x[i], last))
             return 1;
     return 0;
 }
 
 /*
- * The history is unsound: read from the oldest place (the next one to be
- * written) on, around the ring, a stored tick is above the one after it, or
- * the newest is after the last tick. No other tick is then after the last.
+ * Refusal 7. Where the last tick, the stored ticks of banks and rank and their
+ * distances are below 2^62, none of these is after the last; else they are
+ * compared.
  */
-static int history_unsound(const uint64_t *ticks, size_t h, size_t place, uint64_t last)
-{
-    uint64_t newest = ticks[(place == 0 ? h : place) - 1];
-    size_t young = place == 0 ? 0 : place - 1;
-    if (after(newest, last))
-        return 1;
-    if (place != 0 && ticks[h - 1] > ticks[0])
-        return 1;
-    uint64_t bits = falls(ticks + place, h - 1 - place) | falls(ticks, young);
-    if (bits >> 63 == 0)
-        return 0;
-    return falls_exactly(ticks + place, h - 1 - place) || falls_exactly(ticks, young);
-}
-
-/* Refusal 7. */
 static int memory_unsound(const struct rules *r, const uint64_t head[22], const uint64_t *ticks)
 {
     uint64_t last = head[0];
-    int late = 0;
     if (head[1] >= r->history)
         return 1;
-    for (size_t b = 0; b < r->banks; b++)
-        late |= after(head[BANK_HEAD + b], last);
-    for (size_t k = 0; k < 4; k++)
-        late |= after(head[RANK_HEAD + k], last);
-    return late || history_unsound(ticks, r->history, head[1], last);
+    uint64_t bits = last | distances(head + BANK_HEAD, r->banks, last) |
+                    distances(head + RANK_HEAD, 4, last);
+    if (bits >> 62 != 0 && (any_after(head + BANK_HEAD, r->banks, last) ||
+                            any_after(head + RANK_HEAD, 4, last)))
+        return 1;
+    return history_unsound(ticks, r->history, head[1], last);
 }
 
 /* Refusals 1 to 9 of a call with a tick, a bank and a thread. */
@@ -180,6 +157,14 @@ static void clear_filter(const struct rules *r, uint16_t *counters, uint32_t *th
         threads[3 * i + filter] = 0;
 }
 
+/* Clears both filters and all index counters. */
+static void clear_filters(const struct rules *r, uint16_t *counters, uint32_t *threads)
+{
+    memset(counters, 0, (size_t)r->banks * BANK_COUNTERS * sizeof *counters);
+    for (size_t i = 0; i < (size_t)r->banks * r->threads; i++)
+        threads[3 * i] = threads[3 * i + 1] = 0;
+}
+
 /* Moves the clock to the tick, clears what its epoch asks for, and returns that epoch. */
 static uint64_t move_clock(const struct rules *r, uint64_t head[22], uint16_t *counters,
                            uint32_t *threads, uint64_t tick)
@@ -188,9 +173,10 @@ static uint64_t move_clock(const struct rules *r, uint64_t head[22], uint16_t *c
     head[0] = tick;
     if (tick - old * r->epoch >= r->epoch) {
         now = tick / r->epoch;
-        clear_filter(r, counters, threads, old % 2);
         if (now - old >= 2)
-            clear_filter(r, counters, threads, (old + 1) % 2);
+            clear_filters(r, counters, threads);
+        else
+            clear_filter(r, counters, threads, old % 2);
     }
     return now;
 }
@@ -200,18 +186,25 @@ static const uint16_t row_bits[16] = {
     1u << 8, 1u << 9, 1u << 10, 1u << 11, 1u << 12, 1u << 13, 1u << 14, 1u << 15,
 };
 
-/* The row's four places in a filter: H3 hash functions. */
+/* One H3 hash function: the seeds of the row's set bits. */
+static uint16_t hash_function(const uint16_t seeds[16], const uint16_t set[16])
+{
+    uint16_t x = 0;
+    for (size_t i = 0; i < 16; i++)
+        x ^= seeds[i] & set[i];
+    return x;
+}
+
+/* The row's four places in a filter. A loop over the functions is ten times slower with gcc 12. */
 static void hash(const uint16_t seeds[64], uint16_t row, uint16_t places[4])
 {
     uint16_t set[16];
     for (size_t i = 0; i < 16; i++)
         set[i] = (row & row_bits[i]) != 0 ? 0xffff : 0;
-    for (size_t f = 0; f < 4; f++) {
-        uint16_t x = 0;
-        for (size_t i = 0; i < 16; i++)
-            x ^= seeds[16 * f + i] & set[i];
-        places[f] = x;
-    }
+    places[0] = hash_function(seeds, set);
+    places[1] = hash_function(seeds + 16, set);
+    places[2] = hash_function(seeds + 32, set);
+    places[3] = hash_function(seeds + 48, set);
 }
 
 /* The least of the row's four counters in a filter. */
@@ -314,7 +307,7 @@ static uint64_t later(uint64_t stored, uint64_t gap)
     return stored == 0 ? 0 : stored - 1 + gap;
 }
 
-uint32_t JOIN(BASE_PREFIX, setup)(BASE_STATE)
+uint32_t BASE_NAME(BASE_PREFIX, setup)(BASE_STATE)
 {
     struct rules r;
     uint32_t refused = setting_refusal(setting, seeds, seeds_len, &r);
@@ -330,8 +323,8 @@ uint32_t JOIN(BASE_PREFIX, setup)(BASE_STATE)
     return 0;
 }
 
-uint32_t JOIN(BASE_PREFIX, request)(BASE_STATE, uint64_t tick, uint64_t bank, uint64_t thread,
-                                    uint16_t row, uint64_t out[2])
+uint32_t BASE_NAME(BASE_PREFIX, request)(BASE_STATE, uint64_t tick, uint64_t bank, uint64_t thread,
+                                         uint16_t row, uint64_t out[2])
 {
     struct rules r;
     uint16_t places[4];
@@ -364,7 +357,7 @@ uint32_t JOIN(BASE_PREFIX, request)(BASE_STATE, uint64_t tick, uint64_t bank, ui
     return 0;
 }
 
-uint32_t JOIN(BASE_PREFIX, done)(BASE_STATE, uint64_t tick, uint64_t bank, uint64_t thread)
+uint32_t BASE_NAME(BASE_PREFIX, done)(BASE_STATE, uint64_t tick, uint64_t bank, uint64_t thread)
 {
     struct rules r;
     uint32_t refused = call_refusal(BASE_GIVEN, tick, bank, thread, &r);
@@ -378,8 +371,8 @@ uint32_t JOIN(BASE_PREFIX, done)(BASE_STATE, uint64_t tick, uint64_t bank, uint6
     return 0;
 }
 
-uint32_t JOIN(BASE_PREFIX, index)(BASE_STATE, uint64_t tick, uint64_t bank, uint64_t thread,
-                                  uint64_t out[3])
+uint32_t BASE_NAME(BASE_PREFIX, index)(BASE_STATE, uint64_t tick, uint64_t bank, uint64_t thread,
+                                       uint64_t out[3])
 {
     struct rules r;
     uint32_t refused = call_refusal(BASE_GIVEN, tick, bank, thread, &r);

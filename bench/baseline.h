@@ -5,7 +5,8 @@
  * PREFIX_index, with the PREFIX given to the compiler as -DBASE_PREFIX=PREFIX
  * (base if none is given). So one program can hold several builds of it, each
  * declared by BASE_DECLARE(PREFIX). With -DBASE_PREFIX=throttle it stands in
- * for the library.
+ * for the library. With -DBASE_COMPARES it has the other form of the test of the
+ * history, see baseline_history.h.
  */
 #ifndef BASELINE_H
 #define BASELINE_H
@@ -24,12 +25,23 @@
     setting, seeds, seeds_len, head, counters, counters_len, ticks, ticks_len, rows, rows_len, \
         threads, threads_len
 
-#define BASE_DECLARE(prefix)                                                             \
-    uint32_t prefix##_setup(BASE_STATE);                                                 \
-    uint32_t prefix##_request(BASE_STATE, uint64_t tick, uint64_t bank, uint64_t thread, \
-                              uint16_t row, uint64_t out[2]);                            \
-    uint32_t prefix##_done(BASE_STATE, uint64_t tick, uint64_t bank, uint64_t thread);   \
-    uint32_t prefix##_index(BASE_STATE, uint64_t tick, uint64_t bank, uint64_t thread,   \
-                            uint64_t out[3])
+/* the name of a function; a prefix that is itself a macro is replaced first */
+#define BASE_JOIN(prefix, call) prefix##_##call
+#define BASE_NAME(prefix, call) BASE_JOIN(prefix, call)
+
+#define BASE_DECLARE(prefix)                                                                   \
+    uint32_t BASE_NAME(prefix, setup)(BASE_STATE);                                             \
+    uint32_t BASE_NAME(prefix, request)(BASE_STATE, uint64_t tick, uint64_t bank,              \
+                                        uint64_t thread, uint16_t row, uint64_t out[2]);       \
+    uint32_t BASE_NAME(prefix, done)(BASE_STATE, uint64_t tick, uint64_t bank,                 \
+                                     uint64_t thread);                                         \
+    uint32_t BASE_NAME(prefix, index)(BASE_STATE, uint64_t tick, uint64_t bank,                \
+                                      uint64_t thread, uint64_t out[3])
+
+/* history_alone.c: the test of the history, and a loop that only reads the cells */
+#define BASE_DECLARE_HISTORY(prefix)                                                         \
+    int BASE_NAME(prefix, history)(const uint64_t *ticks, size_t h, size_t place,            \
+                                   uint64_t last);                                           \
+    int BASE_NAME(prefix, read)(const uint64_t *ticks, size_t h, size_t place, uint64_t last)
 
 #endif

@@ -62,7 +62,8 @@ struct loop {
     uint64_t random;
 };
 
-static uint64_t setting[THROTTLE_SETTING_WORDS];
+static uint64_t words[THROTTLE_SETTING_WORDS];
+static const uint64_t *setting;
 static uint16_t seeds[THROTTLE_SEEDS];
 static uint64_t head[THROTTLE_HEAD_CELLS];
 static uint16_t counters[THROTTLE_MOST_COUNTER_CELLS];
@@ -104,7 +105,7 @@ static void start_model(const struct kind *kind)
         .banks = 16,
         .threads = THREADS,
     };
-    throttle_words(&s, setting);
+    setting = throttle_words(&s, words);
     for (uint64_t f = 0; f < 4; f++)
         for (uint64_t i = 0; i < 16; i++)
             seeds[16 * f + i] = (uint16_t)((37 * (i + 1) * (i + 1) + 211 * f + 89 * i * f) % 1024);
