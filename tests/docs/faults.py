@@ -14,9 +14,8 @@ from pathlib import Path
 
 ROOT = Path(sys.argv[1]).resolve()
 CHECK = Path(__file__).with_name("check.py")
-# Read by the checks; the proofs are not.
-PARTS = ["README.md", "CHANGELOG.md", "CONTRIBUTING.md", "crates.txt", "check-log", "plan-settings", "test", ".ci", "bench", "crates", "docs",
-         "examples", "include", "samples", "tests"]
+# Not copied: what is made.
+MADE = {".git", "target"}
 
 
 def added(text):
@@ -95,11 +94,11 @@ def main():
     wrong = 0
     with tempfile.TemporaryDirectory() as work:
         root = Path(work)
-        for part in PARTS:
-            if (ROOT / part).is_dir():
-                shutil.copytree(ROOT / part, root / part, ignore=shutil.ignore_patterns("target"))
+        for part in (p for p in ROOT.iterdir() if p.name not in MADE):
+            if part.is_dir():
+                shutil.copytree(part, root / part.name)
             else:
-                shutil.copy(ROOT / part, root / part)
+                shutil.copy(part, root / part.name)
         for name, change in [("README.md", added("A plain sentence.")), *GOOD]:
             status, output = plant(root, name, change)
             if status != 0 or "changes nothing" in output:
