@@ -183,7 +183,8 @@ enum throttle_refusal {
     THROTTLE_BAD_MEMORY = 7,       /* next history place of H or more, a stored tick after the
                                       last tick, or stored history ticks that rise anywhere
                                       when read from the newest place back */
-    THROTTLE_OUTSIDE_SETTING = 8,  /* bank or thread not below the setting's number of them */
+    THROTTLE_OUTSIDE_SETTING = 8,  /* bank or thread not below the setting's number of them;
+                                      of throttle_row: a row above 65,535 */
     THROTTLE_BAD_TICK = 9,         /* tick before the last one, or 2^62 or more */
     THROTTLE_NONE_IN_FLIGHT = 10   /* done, and the thread has none in flight in this bank */
 };

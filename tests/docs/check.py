@@ -112,7 +112,7 @@ def exists(word, folder):
 def looks_like_path(word):
     """Whether a word of a code span looks like a file or folder of the repository."""
     first = word.removeprefix("./").split("/")[0]
-    if first in MADE or not re.fullmatch(r"[\w./*-]+", word):
+    if first in MADE or not re.fullmatch(r"[\w./*-]*\w[\w./*-]*", word):
         return False
     if word.startswith("./"):
         return True

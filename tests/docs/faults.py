@@ -65,7 +65,7 @@ FAULTS = [
 # What the checks must let pass.
 GOOD = [
     ("docs/log-format.md", added("| " + "x" * 200)),
-    ("docs/log-format.md", added("```\n" + "x" * 200 + "\n```")),
+    ("docs/log-format.md", added("```\n" + "x" * 200 + " / 1\n```")),
     ("README.md", added("x" * 140)),
     ("docs/log-format.md", added("x" * 160)),
     ("CONTRIBUTING.md", added("`crates/NAME/must-fail/LABEL.edit`, `target/none.a`, `rt dev NAME`")),
