@@ -20,17 +20,15 @@ static uint32_t threads[THROTTLE_MOST_THREAD_CELLS];
 
 static void request(uint64_t tick)
 {
-    static const char *const answers[] = {"opened", "wait for bank", "wait for rank",
-                                          "wait for row", "quota"};
     uint64_t out[2];
     uint32_t code = throttle_request(STATE, tick, 0, 0, 5, out);
     printf("request at %" PRIu64 ": ", tick);
     if (code != THROTTLE_ANSWERED)
-        printf("refused with %" PRIu32 "\n", code);
+        printf("refused with %" PRIu32 ", %s\n", code, throttle_refusal_name(code));
     else if (out[1] != 0)
-        printf("%s until %" PRIu64 "\n", answers[out[0]], out[1]);
+        printf("%s until %" PRIu64 "\n", throttle_answer_name(out[0]), out[1]);
     else
-        printf("%s\n", answers[out[0]]);
+        printf("%s\n", throttle_answer_name(out[0]));
 }
 
 int main(void)
@@ -47,11 +45,12 @@ int main(void)
         .threads = 1,
     };
     uint64_t reading[3];
-    for (unsigned f = 0; f < 4; f++)
-        for (unsigned i = 0; i < 16; i++)
-            seeds[16 * f + i] = (uint16_t)((37 * (i + 1) * (i + 1) + 211 * f + 89 * i * f) % 1024);
+    throttle_house_seeds(seeds); /* for a product: random numbers from 0 to 1,023 */
     throttle_words(&s, setting);
-    printf("set-up: %" PRIu32 "\n", throttle_setup(STATE));
+    uint32_t code = throttle_setup(STATE);
+    printf("set-up: %s\n", throttle_refusal_name(code));
+    if (code != THROTTLE_ANSWERED)
+        return 1;
     request(0);
     request(1);
     request(2);
@@ -60,7 +59,7 @@ int main(void)
     if (throttle_index(STATE, 8, 0, 0, reading) == THROTTLE_ANSWERED)
         printf("index at 8: c %" PRIu64 ", D %" PRIu64 ", quota %" PRIu64 "\n", reading[0],
                reading[1], reading[2]);
-    printf("done at 8: %" PRIu32 "\n", throttle_done(STATE, 8, 0, 0));
+    printf("done at 8: %s\n", throttle_refusal_name(throttle_done(STATE, 8, 0, 0)));
     request(8);
     request(5);
     return 0;

@@ -89,7 +89,8 @@ static void stop(const char *what)
 
 static void stop_refused(const char *call, uint32_t code)
 {
-    fprintf(stderr, "simulator: %s refused with %" PRIu32 " (see throttle.h)\n", call, code);
+    fprintf(stderr, "simulator: %s refused with %" PRIu32 ", %s\n", call, code,
+            throttle_refusal_name(code));
     exit(2);
 }
 
@@ -106,10 +107,7 @@ static uint32_t start_rank(struct rank *r, const struct throttle_setting *s)
 {
     r->setting = *s;
     throttle_words(s, r->words);
-    for (uint32_t f = 0; f < 4; f++)
-        for (uint32_t i = 0; i < 16; i++)
-            r->seeds[16 * f + i] =
-                (uint16_t)((37 * (i + 1) * (i + 1) + 211 * f + 89 * i * f) % 1024);
+    throttle_house_seeds(r->seeds);
     r->counter_cells = throttle_counter_cells(s);
     r->history_cells = throttle_history_cells(s);
     r->thread_cells = throttle_thread_cells(s);
@@ -159,17 +157,19 @@ static void read_trace(struct trace *t, const char *name, uint64_t threads)
         stop("the trace can't be opened");
     while (fgets(line, sizeof line, f) != NULL) {
         char *at = line;
-        uint64_t tick, thread, bank, row;
+        uint64_t tick, thread, bank, given;
+        uint16_t row;
         n++;
         if (line[strspn(line, " \t\r\n")] == '\0' || line[0] == '#')
             continue;
         if (!number(&at, UINT64_MAX, &tick) || !number(&at, threads - 1, &thread) ||
-            !number(&at, UINT64_MAX, &bank) || !number(&at, 65535, &row) ||
+            !number(&at, UINT64_MAX, &bank) || !number(&at, UINT64_MAX, &given) ||
+            throttle_row(given, &row) != THROTTLE_ANSWERED ||
             at[strspn(at, " \t\r\n")] != '\0') {
             fprintf(stderr, "simulator: line %zu is not tick, thread, bank and row\n", n);
             exit(2);
         }
-        add(t, tick, thread, bank, (uint16_t)row);
+        add(t, tick, thread, bank, row);
     }
     if (ferror(f))
         stop("the trace can't be read");
@@ -302,12 +302,10 @@ static int by_row_then_tick(const void *x, const void *y)
 
 static void report(struct controller *c)
 {
-    static const char *const names[5] = {"opened", "wait for bank", "wait for rank", "wait for row",
-                                         "quota"};
     const struct throttle_setting *s = &c->rank.setting;
     size_t most = 0, begin = 0, last = 0;
     for (size_t i = 0; i < 5; i++)
-        printf("%-14s %" PRIu64 "\n", names[i], c->answers[i]);
+        printf("%-14s %" PRIu64 "\n", throttle_answer_name(i), c->answers[i]);
     printf("%-14s %zu\n%-14s %" PRIu64 "\n", "done", c->done, "last tick", c->now);
     qsort(c->opened, c->opens, sizeof *c->opened, by_row_then_tick);
     for (size_t i = 0; i < c->opens; i++) {

@@ -24,6 +24,7 @@
 #ifndef THROTTLE_H
 #define THROTTLE_H
 
+#include "throttle_checked.h"
 #include "throttle_version.h"
 
 #include <stddef.h>
@@ -80,6 +81,21 @@ static inline const uint64_t *throttle_words(const struct throttle_setting *s,
     words[7] = s->banks;
     words[8] = s->threads;
     return words;
+}
+
+/*
+ * The seeds of the examples and tests: function f, bit i of the row:
+ * (37(i+1)^2 + 211f + 89if) mod 1,024. Anyone can read them here, and an
+ * attacker who knows the seeds can make rows collide: choose rows that raise
+ * the counters of another thread's row, so that it is blacklisted and waits.
+ * The limit L holds with any seeds. For a product take random seeds, each from
+ * 0 to 1,023, and keep them secret.
+ */
+static inline void throttle_house_seeds(uint16_t seeds[THROTTLE_SEEDS])
+{
+    for (unsigned f = 0; f < 4; f++)
+        for (unsigned i = 0; i < 16; i++)
+            seeds[16 * f + i] = (uint16_t)((37 * (i + 1) * (i + 1) + 211 * f + 89 * i * f) % 1024);
 }
 
 /*
@@ -150,6 +166,8 @@ static inline size_t throttle_thread_cells(const struct throttle_setting *s)
  *
  * 0 means answered, any other number is a refusal. A refused call changes
  * nothing: head, buffers and out are as before, and the clock has not moved.
+ * So out still holds the answer of an earlier call: look at the number first.
+ * Compilers that can warn where it is not looked at do so (THROTTLE_CHECKED).
  * The tests are made in the order of the numbers and the first that fails is
  * returned. 1 to 5 concern the setting and are tested in every call; set-up
  * tests 1 to 6, request and index 1 to 9, done 1 to 10.
@@ -165,7 +183,8 @@ enum throttle_refusal {
     THROTTLE_BAD_MEMORY = 7,       /* next history place of H or more, a stored tick after the
                                       last tick, or stored history ticks that rise anywhere
                                       when read from the newest place back */
-    THROTTLE_OUTSIDE_SETTING = 8,  /* bank or thread not below the setting's number of them */
+    THROTTLE_OUTSIDE_SETTING = 8,  /* bank or thread not below the setting's number of them;
+                                      of throttle_row: a row above 65,535 */
     THROTTLE_BAD_TICK = 9,         /* tick before the last one, or 2^62 or more */
     THROTTLE_NONE_IN_FLIGHT = 10   /* done, and the thread has none in flight in this bank */
 };
@@ -186,11 +205,65 @@ enum throttle_answer {
 };
 
 /*
+ * Both in a few words, for messages; "unknown" for any other number. 11 to 13
+ * are refusals of the log checker, 13 also of the log writer.
+ */
+static inline const char *throttle_refusal_name(uint32_t number)
+{
+    switch (number) {
+    case THROTTLE_ANSWERED: return "answered";
+    case THROTTLE_OUT_OF_RANGE: return "setting or seeds out of range";
+    case THROTTLE_SHORT_WINDOW: return "window too short for N";
+    case THROTTLE_BAD_DELAY: return "delay below tRC or above W/2";
+    case THROTTLE_LONG_HISTORY: return "history too long";
+    case THROTTLE_ABOVE_LIMIT: return "bound B above limit L";
+    case THROTTLE_SHORT_BUFFER: return "buffer too short";
+    case THROTTLE_BAD_MEMORY: return "bad memory contents";
+    case THROTTLE_OUTSIDE_SETTING: return "bank, thread or row outside the setting";
+    case THROTTLE_BAD_TICK: return "tick before the last one or too large";
+    case THROTTLE_NONE_IN_FLIGHT: return "none in flight";
+    case 11: return "input ends within a block";
+    case 12: return "sum of a block is wrong";
+    case 13: return "against the log format";
+    default: return "unknown";
+    }
+}
+
+static inline const char *throttle_answer_name(uint64_t answer)
+{
+    switch (answer) {
+    case THROTTLE_OPENED: return "opened";
+    case THROTTLE_WAIT_BANK: return "wait for bank";
+    case THROTTLE_WAIT_RANK: return "wait for rank";
+    case THROTTLE_WAIT_ROW: return "wait for row";
+    case THROTTLE_QUOTA: return "quota";
+    default: return "unknown";
+    }
+}
+
+/*
+ * A request takes a row of 16 bits, and C cuts a wider number to its lowest 16
+ * bits before the call: 65,541 becomes row 5. This takes the number as it is
+ * and writes it to out if it is a row; otherwise it returns
+ * THROTTLE_OUTSIDE_SETTING and leaves out as it was. The compiler's option
+ * -Wconversion finds a wider number that is handed to a request.
+ */
+THROTTLE_CHECKED
+static inline uint32_t throttle_row(uint64_t number, uint16_t *out)
+{
+    if (number > 65535)
+        return THROTTLE_OUTSIDE_SETTING;
+    *out = (uint16_t)number;
+    return THROTTLE_ANSWERED;
+}
+
+/*
  * Set-up: clears the head and the used parts of the buffers, whatever they
  * hold. Last tick and next history place are then 0.
  *
  * seeds: function by function, 16 each, that of bit 0 of the row first.
  */
+THROTTLE_CHECKED
 uint32_t throttle_setup(const uint64_t setting[9], const uint16_t *seeds, size_t seeds_len,
                         uint64_t head[22], uint16_t *counters, size_t counters_len,
                         uint64_t *ticks, size_t ticks_len, uint32_t *rows, size_t rows_len,
@@ -216,6 +289,7 @@ uint32_t throttle_setup(const uint64_t setting[9], const uint16_t *seeds, size_t
  * the old epoch tested are cleared, in all banks; if two or more epochs have
  * passed, all of them. In flight is not cleared.
  */
+THROTTLE_CHECKED
 uint32_t throttle_request(const uint64_t setting[9], const uint16_t *seeds, size_t seeds_len,
                           uint64_t head[22], uint16_t *counters, size_t counters_len,
                           uint64_t *ticks, size_t ticks_len, uint32_t *rows, size_t rows_len,
@@ -227,6 +301,7 @@ uint32_t throttle_request(const uint64_t setting[9], const uint16_t *seeds, size
  * Reports that one of the thread's activations in the bank is finished: moves
  * the clock and takes 1 from in flight.
  */
+THROTTLE_CHECKED
 uint32_t throttle_done(const uint64_t setting[9], const uint16_t *seeds, size_t seeds_len,
                        uint64_t head[22], uint16_t *counters, size_t counters_len,
                        uint64_t *ticks, size_t ticks_len, uint32_t *rows, size_t rows_len,
@@ -239,6 +314,7 @@ uint32_t throttle_done(const uint64_t setting[9], const uint16_t *seeds, size_t 
  * counter under test, out[1] is D = L - N, at which c stops, out[2] is the
  * quota floor(Q x (D - min(c, D)) / D).
  */
+THROTTLE_CHECKED
 uint32_t throttle_index(const uint64_t setting[9], const uint16_t *seeds, size_t seeds_len,
                         uint64_t head[22], uint16_t *counters, size_t counters_len,
                         uint64_t *ticks, size_t ticks_len, uint32_t *rows, size_t rows_len,

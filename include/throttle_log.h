@@ -10,6 +10,7 @@
 #ifndef THROTTLE_LOG_H
 #define THROTTLE_LOG_H
 
+#include "throttle_checked.h"
 #include "throttle_version.h"
 
 #include <stddef.h>
@@ -29,6 +30,7 @@ enum {
  * the seeds. Whether the setting is accepted is not tested.
  *   1  a field of more than 32 bits, or other than 64 seeds
  */
+THROTTLE_CHECKED
 uint32_t throttle_log_start(const uint64_t setting[9], const uint16_t *seeds, size_t seeds_len,
                             uint8_t block[THROTTLE_LOG_BLOCK]);
 
@@ -37,6 +39,7 @@ uint32_t throttle_log_start(const uint64_t setting[9], const uint16_t *seeds, si
  * done; answer and wait are those of the request, and 0 for a done.
  *  13  a place above 19, a bank or thread above 255, a kind above 1, an answer above 4
  */
+THROTTLE_CHECKED
 uint32_t throttle_log_record(uint8_t block[THROTTLE_LOG_BLOCK], uint64_t place, uint64_t tick, uint64_t wait, uint16_t row,
                              uint64_t bank, uint64_t thread, uint64_t kind, uint64_t answer);
 
@@ -45,6 +48,7 @@ uint32_t throttle_log_record(uint8_t block[THROTTLE_LOG_BLOCK], uint64_t place, 
  * records, and both sums. Only the last block may have fewer than 20 records.
  *  13  a number of 0 or of more than 32 bits, a count that is not 1 to 20
  */
+THROTTLE_CHECKED
 uint32_t throttle_log_seal(uint8_t block[THROTTLE_LOG_BLOCK], uint64_t number, uint64_t count);
 
 #ifdef __cplusplus

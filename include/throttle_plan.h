@@ -6,6 +6,7 @@
 #ifndef THROTTLE_PLAN_H
 #define THROTTLE_PLAN_H
 
+#include "throttle_checked.h"
 #include "throttle_version.h"
 
 #include <stdint.h>
@@ -29,6 +30,7 @@ enum { THROTTLE_DELAYS_OUT = 2 };
  *   4  the smallest delay with B <= L needs more than 4,096 history cells
  *   5  B > L with every delay from 1 to 2^29
  */
+THROTTLE_CHECKED
 uint32_t throttle_delays(const uint64_t setting[9], uint64_t out[THROTTLE_DELAYS_OUT]);
 
 #ifdef __cplusplus

@@ -42,9 +42,7 @@ int main(int count, char **arguments)
     uint64_t delays[THROTTLE_DELAYS_OUT] = {0, 0}, answer[THROTTLE_REQUEST_OUT] = {9, 9};
     uint8_t written[THROTTLE_LOG_BLOCK] = {0}, wanted[THROTTLE_LOG_BLOCK] = {0};
 
-    for (unsigned f = 0; f < 4; f++)
-        for (unsigned i = 0; i < 16; i++)
-            seeds[16 * f + i] = (uint16_t)((37 * (i + 1) * (i + 1) + 211 * f + 89 * i * f) % 1024);
+    throttle_house_seeds(seeds);
 
     /* B = 5 + floor(35/tD) is at most 10 from tD = 6 on; W/2 is 20. */
     check(throttle_delays(throttle_words(&s, setting), delays) == 0, "throttle_delays refuses the setting");

@@ -37,14 +37,6 @@ static inline void *block(size_t cells, size_t size)
     return memory;
 }
 
-/* Function f, bit i: (37(i+1)^2 + 211f + 89if) mod 1,024. */
-static inline void house_seeds(uint16_t seeds[64])
-{
-    for (unsigned f = 0; f < 4; f++)
-        for (unsigned i = 0; i < 16; i++)
-            seeds[16 * f + i] = (uint16_t)((37 * (i + 1) * (i + 1) + 211 * f + 89 * i * f) % 1024);
-}
-
 /* Memory as long as the setting uses, not initialised, with the house seeds. */
 static inline struct lent lend(const struct throttle_setting *s)
 {
@@ -53,7 +45,7 @@ static inline struct lent lend(const struct throttle_setting *s)
     throttle_words(s, m.words);
     m.seeds_len = 64;
     m.seeds = block(64, 2);
-    house_seeds(m.seeds);
+    throttle_house_seeds(m.seeds);
     m.head = block(THROTTLE_HEAD_CELLS, 8);
     m.counters_len = throttle_counter_cells(s);
     m.counters = block(m.counters_len, 2);

@@ -1,7 +1,8 @@
 /*
  * Calls everything that include/throttle.h declares: the types, the sizes, the
- * sample runs of the specification, every refusal of every call, and the order
- * and width of the arguments by values that differ in each of them.
+ * seeds, names and rows of the inline functions, the sample runs of the
+ * specification, every refusal of every call, and the order and width of the
+ * arguments by values that differ in each of them.
  */
 #include "lent.h"
 
@@ -68,6 +69,57 @@ static void sizes(void)
     CHECK(throttle_counter_cells(&none) == 0);
     CHECK(throttle_history_cells(&none) == 0);
     CHECK(throttle_thread_cells(&none) == 0);
+}
+
+/* The house seeds: some of them, and the places of row 3 that the specification names. */
+static void house_seeds(void)
+{
+    static const struct {
+        size_t at;
+        uint16_t seed;
+    } some[] = {{0, 37},   {1, 148},  {15, 256}, {16, 248}, {17, 448},
+                {31, 778}, {32, 459}, {47, 276}, {48, 670}, {63, 798}};
+    uint16_t seeds[THROTTLE_SEEDS];
+    throttle_house_seeds(seeds);
+    for (size_t i = 0; i < sizeof some / sizeof *some; i++)
+        CHECK(seeds[some[i].at] == some[i].seed);
+    CHECK((seeds[0] ^ seeds[1]) == 177 && (seeds[16] ^ seeds[17]) == 312);
+    for (size_t i = 0; i < THROTTLE_SEEDS; i++)
+        CHECK(seeds[i] < 1024);
+}
+
+/* Every number has a name, no two the same one, and "unknown" is that of all the others. */
+static void names(void)
+{
+    for (uint32_t i = 0; i < 14; i++) {
+        CHECK(strcmp(throttle_refusal_name(i), "unknown") != 0);
+        for (uint32_t k = 0; k < i; k++)
+            CHECK(strcmp(throttle_refusal_name(i), throttle_refusal_name(k)) != 0);
+    }
+    CHECK(strcmp(throttle_refusal_name(THROTTLE_ANSWERED), "answered") == 0);
+    CHECK(strcmp(throttle_refusal_name(THROTTLE_NONE_IN_FLIGHT), "none in flight") == 0);
+    CHECK(strcmp(throttle_refusal_name(14), "unknown") == 0);
+    CHECK(strcmp(throttle_refusal_name(UINT32_MAX), "unknown") == 0);
+    CHECK(strcmp(throttle_answer_name(THROTTLE_OPENED), "opened") == 0);
+    CHECK(strcmp(throttle_answer_name(THROTTLE_WAIT_BANK), "wait for bank") == 0);
+    CHECK(strcmp(throttle_answer_name(THROTTLE_WAIT_RANK), "wait for rank") == 0);
+    CHECK(strcmp(throttle_answer_name(THROTTLE_WAIT_ROW), "wait for row") == 0);
+    CHECK(strcmp(throttle_answer_name(THROTTLE_QUOTA), "quota") == 0);
+    CHECK(strcmp(throttle_answer_name(5), "unknown") == 0);
+    CHECK(strcmp(throttle_answer_name(WIDE), "unknown") == 0);
+    CHECK(strcmp(throttle_answer_name(UINT64_MAX), "unknown") == 0);
+}
+
+/* A row of 16 bits is taken as it is, and a wider number is not cut. */
+static void checked_rows(void)
+{
+    static const uint64_t wider[] = {65536, 65541, UINT64_C(1) << 32, UINT64_MAX};
+    uint16_t row = 77;
+    CHECK(throttle_row(0, &row) == THROTTLE_ANSWERED && row == 0);
+    CHECK(throttle_row(0xBEEF, &row) == THROTTLE_ANSWERED && row == 0xBEEF);
+    CHECK(throttle_row(65535, &row) == THROTTLE_ANSWERED && row == 65535);
+    for (size_t i = 0; i < sizeof wider / sizeof *wider; i++)
+        CHECK(throttle_row(wider[i], &row) == THROTTLE_OUTSIDE_SETTING && row == 65535);
 }
 
 /* The sample runs of the specification on setting S. */
@@ -233,7 +285,7 @@ static void refused_seeds(struct lent *m)
     m->seeds_len = 64;
     m->seeds[63] = 1024;
     CHECK(setup(m) == THROTTLE_OUT_OF_RANGE && refused(m, THROTTLE_OUT_OF_RANGE, FIRST, 2, 4));
-    house_seeds(m->seeds);
+    throttle_house_seeds(m->seeds);
 }
 
 /* Each of the four lengths one short. */
@@ -325,6 +377,9 @@ static void published(void)
 int main(void)
 {
     sizes();
+    house_seeds();
+    names();
+    checked_rows();
     published();
     samples();
     rank_rule();

@@ -1,0 +1,49 @@
+/*
+ * A call whose result is not looked at: the one that is named by IGNORE_NAME,
+ * as IGNORE_throttle_setup. With warnings as errors it must not compile, and
+ * with no such name it must.
+ */
+#include "throttle.h"
+#include "throttle_log.h"
+#include "throttle_plan.h"
+
+static uint64_t setting[THROTTLE_SETTING_WORDS], head[THROTTLE_HEAD_CELLS], ticks[8], out[3];
+static uint16_t seeds[THROTTLE_SEEDS], counters[2048], row;
+static uint32_t rows[8], threads[3];
+static uint8_t block[THROTTLE_LOG_BLOCK];
+
+#define STATE setting, seeds, THROTTLE_SEEDS, head, counters, 2048, ticks, 8, rows, 8, threads, 3
+
+int main(void)
+{
+    throttle_house_seeds(seeds);
+#ifdef IGNORE_throttle_setup
+    throttle_setup(STATE);
+#endif
+#ifdef IGNORE_throttle_request
+    throttle_request(STATE, 0, 0, 0, 5, out);
+#endif
+#ifdef IGNORE_throttle_done
+    throttle_done(STATE, 0, 0, 0);
+#endif
+#ifdef IGNORE_throttle_index
+    throttle_index(STATE, 0, 0, 0, out);
+#endif
+#ifdef IGNORE_throttle_row
+    throttle_row(70000, &row);
+#endif
+#ifdef IGNORE_throttle_log_start
+    throttle_log_start(setting, seeds, THROTTLE_SEEDS, block);
+#endif
+#ifdef IGNORE_throttle_log_record
+    throttle_log_record(block, 0, 0, 0, 5, 0, 0, 0, 0);
+#endif
+#ifdef IGNORE_throttle_log_seal
+    throttle_log_seal(block, 1, 1);
+#endif
+#ifdef IGNORE_throttle_delays
+    throttle_delays(setting, out);
+#endif
+    return throttle_setup(STATE) + throttle_request(STATE, 0, 0, 0, 5, out) + throttle_row(5, &row) +
+           throttle_log_seal(block, 1, 1) > 0;
+}
