@@ -1,9 +1,10 @@
 # shellcheck shell=bash
-# What the tests of the commands share. They run in a copy of the tree with its proofs, so that the caller's tree is left as it is: `tree`
-# is its path, and the current folder.
+# What the tests of the commands share. They run in a copy of the tree with its proofs, so that the caller's tree is left as it is, except
+# that programs and archives are built there if they must be. `tree` is the copy's path, and the current folder.
 set -eu
 export LC_ALL=C
 source_tree=$(realpath "$(dirname "${BASH_SOURCE[0]}")/../..")
+. "$source_tree/tools/build.sh"
 real_rt=$(command -v rt)
 part=$(basename "$0")
 failed=0
@@ -11,6 +12,11 @@ failed=0
 note() {
     echo "$part: $*"
     failed=1
+}
+
+fail() {
+    echo "$part: $*" >&2
+    exit 1
 }
 
 # Ends a test with its last line, if nothing failed.
@@ -21,7 +27,9 @@ finish() {
 
 # Makes the copy. Libraries are linked and not copied, as none of them is proved again.
 copy_tree() {
-    mkdir -p "$source_tree/target"
+    need_program check_log
+    need_program plan_settings
+    need_archive throttle
     work=$(mktemp -d "$source_tree/target/commands.XXXXXX")
     trap 'rm -rf "$work"' EXIT
     tree=$work/tree
