@@ -1,23 +1,25 @@
-// What is wrong with the arguments: messages on standard error. The ranges are those of document 01's table.
+// What is wrong with the arguments: a line on standard error for each fault, which begins with the name that the program was called by.
+// The ranges are those of document 01's table. Whoever calls the program prints its usage.
 fn complain(text: &[u8]) {
     io::write_all(libc::STDERR_FILENO, text);
 }
 
-fn report_usage() {
-    complain(
-        b"usage: plan-settings W TRC TFAW L [N]   whole ticks of a quarter nanosecond; N for one threshold only\n",
-    );
-    complain(b"for example: plan-settings 256000000 185 140 16384\n");
+// The name that the program was called by. One that is missing or longer than 4,096 bytes is left out.
+fn complain_by_name() {
+    let mut name = io::buffer();
+    let n = os::arg(0, &mut name);
+    complain(&name[..n]);
+    complain(b": ");
 }
 
 pub fn report_count() {
-    complain(b"plan_settings: four numbers are needed, or five\n");
-    report_usage();
+    complain_by_name();
+    complain(b"four numbers are needed, or five\n");
 }
 
 // The name of argument i.
 fn complain_of(i: usize) {
-    complain(b"plan_settings: ");
+    complain_by_name();
     match i {
         1 => complain(b"W"),
         2 => complain(b"TRC"),
@@ -30,7 +32,6 @@ fn complain_of(i: usize) {
 pub fn report_word(i: usize) {
     complain_of(i);
     complain(b" is not a whole decimal number up to 4294967295\n");
-    report_usage();
 }
 
 // x is from 1 to high; where it is not, that is reported of argument i.
@@ -40,7 +41,6 @@ fn is_within(i: usize, x: u64, high: u64) -> bool {
         complain(b" must be from 1 to ");
         io::print_decimal(libc::STDERR_FILENO, high);
         complain(b"\n");
-        report_usage();
         return false;
     }
     true
@@ -48,8 +48,8 @@ fn is_within(i: usize, x: u64, high: u64) -> bool {
 
 fn is_window(w: u64) -> bool {
     if w < 2 || w > 1073741824 || w % 2 != 0 {
-        complain(b"plan_settings: W must be even and from 2 to 1073741824\n");
-        report_usage();
+        complain_of(1);
+        complain(b" must be even and from 2 to 1073741824\n");
         return false;
     }
     true
