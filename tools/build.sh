@@ -8,7 +8,8 @@
 #   unlock_target
 # A product that is up to date is taken as it is, without the lock and without rt. It is up to date if the crates that it is made of have
 # the files that they had when its last build began, each with the size and the time that it had then. If it was built by hand with rt, it
-# is up to date if it is newer than each of these files and their folders. A build that did not end well makes nothing up to date.
+# is up to date if it is newer than each of these files and of the folders they are in. A build that did not end well makes nothing up to
+# date. rt itself takes no lock.
 
 root=$(dirname "$(dirname "$(realpath "${BASH_SOURCE[0]}")")")
 target=$root/target
@@ -56,7 +57,7 @@ is_up_to_date() {
     if [ -e "$record.files" ] && [ ! "$product" -nt "$record.files" ]; then
         found=$(list_files) && [ "$found" = "$(<"$record.files")" ]
     else
-        found=$(cd "$root" && find "${parts[@]}" -newer "$product" -print -quit) && [ -z "$found" ]
+        found=$(newer_than_product) && [ -z "$found" ]
     fi
 }
 
@@ -99,6 +100,12 @@ find_parts() {
 # Every file of the parts, with its size and its time.
 list_files() {
     (cd "$root" && find "${parts[@]}" -type f -printf '%p %s %T@\n' | LC_ALL=C sort)
+}
+
+# Something that changed after the product did: a file or folder of the parts, or a crate's own folder, as a part of it came or went.
+newer_than_product() {
+    (cd "$root" && find "${parts[@]}" -newer "$product" -print -quit &&
+        find "${members[@]/#/crates/}" -maxdepth 0 -newer "$product" -print -quit)
 }
 
 # The lock goes away with the processes that have it: this one and those that it starts. So a build whose command was killed keeps it
