@@ -28,11 +28,12 @@ pub struct Decided {
     pub head: Head,
 }
 
-// Decides on a request and, where it is opened, makes the activation.
+// Decides on a request and, where it is opened, makes the activation. stored is the bank's cell of the head.
 pub fn request(
     s: Setting,
     seeds: &[u16],
     h: Head,
+    stored: u64,
     counters: &mut [u16],
     ticks: &mut [u64],
     rows: &mut [u32],
@@ -42,7 +43,7 @@ pub fn request(
     thread: u64,
     row: u16,
 ) -> Decided
-    requires { ⌜ callRefusal limits01 s (now seeds) (state h (now counters) (now ticks) (now rows) (now threads)) tick bank thread ≡ none ⌝ }
+    requires { ⌜ (callRefusal limits01 s (now seeds) (state h (now counters) (now ticks) (now rows) (now threads)) tick bank thread ≡ none) × (stored ≡ getD (h .bank) bank 0) ⌝ }
     ensures { λ r. ⌜ (outcome (answered (r .answer)) (state (r .head) (now (counters .exit)) (now (ticks .exit)) (now (rows .exit)) (now (threads .exit))) ≡ requested narrow s (λ f. places (now (seeds .entry)) row) (turned s (state h (now (counters .entry)) (now (ticks .entry)) (now (rows .entry)) (now (threads .entry))) tick) bank thread row) × Sound s (state (r .head) (now (counters .exit)) (now (ticks .exit)) (now (rows .exit)) (now (threads .exit))) ⌝ }
 {
     let x = turn(s, h, counters, threads, tick);
@@ -51,6 +52,7 @@ pub fn request(
     let v = look(
         s,
         moved,
+        stored,
         &*counters,
         &*ticks,
         &*rows,

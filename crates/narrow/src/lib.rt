@@ -56,10 +56,11 @@ pub fn turn(s: Setting, h: Head, counters: &mut [u16], threads: &mut [u32], tick
     Moved { head, epoch }
 }
 
-// What the decision on a row with these places in filter 0 and filter 1 looks at; e is the epoch of the last tick.
+// What the decision on a row with these places in filter 0 and filter 1 looks at; e is the epoch of the last tick, stored the bank's cell of the head.
 pub fn look(
     s: Setting,
     h: Head,
+    stored: u64,
     counters: &[u16],
     ticks: &[u64],
     rows: &[u32],
@@ -71,7 +72,7 @@ pub fn look(
     row: u16,
     e: u64,
 ) -> View
-    requires { ⌜ Ready s h (now ticks) (now rows) (now threads) bank thread × (countersUsed s ≤ length (now counters)) × Within first × Within second × (e ≡ epoch s (h .last)) ⌝ }
+    requires { ⌜ Ready s h (now ticks) (now rows) (now threads) bank thread × (countersUsed s ≤ length (now counters)) × Within first × Within second × (e ≡ epoch s (h .last)) × (stored ≡ getD (h .bank) bank 0) ⌝ }
     ensures { λ r. ⌜ r ≡ viewOf narrow s (activeEstimate s (two first second) (state h (now (counters .entry)) (now (ticks .entry)) (now (rows .entry)) (now (threads .entry))) bank) (passiveEstimate s (two first second) (state h (now (counters .entry)) (now (ticks .entry)) (now (rows .entry)) (now (threads .entry))) bank) h (now (ticks .entry)) (now (rows .entry)) (now (threads .entry)) bank thread row ⌝ }
 {
     let f = (e % 2) as usize;
@@ -81,6 +82,7 @@ pub fn look(
     state::look::look(
         s,
         h,
+        stored,
         ticks,
         rows,
         threads,

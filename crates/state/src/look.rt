@@ -7,7 +7,7 @@ ghost use mathlib.Core.Path.{_≡_};
 ghost use mathlib.Core.Bool.{_&&_, cond};
 ghost use Prim.Native.Nat.{_+_, _*_, _≤_, _<_, _^_};
 ghost use lib.Dec.{ltb};
-ghost use lib.ListN.{length};
+ghost use lib.ListN.{length, getD};
 ghost use Rattle.rules.specs.Setting.{historyLength};
 ghost use Rattle.rules.specs.Clock.{epoch};
 ghost use Rattle.rules.specs.Policy.{narrow};
@@ -51,10 +51,12 @@ fn delay(
     history::delay_end(ticks, found, places, s.td)
 }
 
-// Reads the view of a row with these estimates in the active and in the other filter; e is the epoch of the last tick.
+// Reads the view of a row with these estimates in the active and in the other filter; e is the epoch of the last tick, stored the bank's cell of the
+// head. It is handed over because an array that is indexed has to lie in memory: a caller that has the head's words reads it there.
 pub fn look(
     s: Setting,
     h: Head,
+    stored: u64,
     ticks: &[u64],
     rows: &[u32],
     threads: &[u32],
@@ -65,7 +67,7 @@ pub fn look(
     active: u64,
     other: u64,
 ) -> View
-    requires { ⌜ Ready s h (now ticks) (now rows) (now threads) bank thread × (e ≡ epoch s (h .last)) ⌝ }
+    requires { ⌜ Ready s h (now ticks) (now rows) (now threads) bank thread × (e ≡ epoch s (h .last)) × (stored ≡ getD (h .bank) bank 0) ⌝ }
     ensures { λ r. ⌜ r ≡ viewOf narrow s active other h (now (ticks .entry)) (now (rows .entry)) (now (threads .entry)) bank thread row ⌝ }
 {
     let length = s.w / 2;
@@ -74,15 +76,13 @@ pub fn look(
     let c = threads[cell + f];
     let flying = threads[cell + 2] as u64;
     let quota = quota::quota(s, c);
-    let stored = h.bank;
     let rank = h.rank;
     let delay = delay(s, h, ticks, rows, active, other, bank, row);
     let end = (e + 1) * length;
-    let b = bank as usize;
     View {
         flying,
         quota,
-        bank: stored[b],
+        bank: stored,
         rank: rank[3],
         active,
         other,

@@ -1,10 +1,10 @@
 -- What an exported call leaves, refused or not.
-use Prim.Native.Nat.{ℕ, _-_}
+use Prim.Native.Nat.{ℕ, _+_, _-_, _<_}
 use mathlib.Core.Path.{_≡_, refl, sym, ap, _∙_}
 use mathlib.Core.Logic.{_≢_}
 use mathlib.Core.List.{List, [], _∷_}
 use mathlib.Core.Bool.{false}
-use lib.ListN.{length}
+use lib.ListN.{length, getD}
 use Rattle.rules.specs.declared.Limits.{Limits}
 use Rattle.rules.specs.declared.Setting.{Setting}
 use Rattle.rules.specs.declared.Head.{Head}
@@ -19,6 +19,7 @@ use Rattle.rules.specs.Quota.{indexCounter}
 use Rattle.rules.specs.Policy.{limits01, narrow}
 use Rattle.rules.specs.Decision.{decide, activated}
 use Rattle.rules.specs.Calls.{request, done, index, Reply, refused, answered, finished, shown, afterAnswer, Outcome, outcome, oneLess, setup, setupRefusal, callRefusal, doneRefusal, unlessRefused, requested, reported, indexShown, step}
+use Rattle.rules.proofs.Cells.{getD-cells}
 use Rattle.rules.proofs.Step.{unless-taken, unless-refused}
 use Rattle.refusal.specs.Tests.{lentTest, callTest, doneTest}
 use Rattle.refusal.proofs.Refusals.{setup-test, call-test, done-test, lent-setup}
@@ -36,6 +37,11 @@ left-refused r o code out words counters ticks rows threads e h =
 pub moved-alone : (x h : Head) (t : ℕ) → h ≡ movedHead x t → h ≡ movedHead x (h .last)
 unfolding movedHead
 moved-alone x h t e = e ∙ ap (λ u. movedHead x u) (sym (ap (λ y. y .last) e))
+
+-- the word of a bank is its cell of the head
+pub bank-word : (words : List ℕ) (bank : ℕ) → bank < 16 → getD words (2 + bank) 0 ≡ getD (headOf words .bank) bank 0
+unfolding headOf
+bank-word words bank h = sym (getD-cells words 2 16 bank h)
 
 -- the number of a reply's answer
 abbrev numberOf : Reply → ℕ

@@ -96,6 +96,7 @@ pub extern "C" fn throttle_request(
         s,
         seeds,
         h,
+        head[2 + bank as usize],
         counters,
         ticks,
         rows,

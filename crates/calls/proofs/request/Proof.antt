@@ -35,7 +35,7 @@ abbrev at : tie.Start → ℕ → List ℕ
 at c f = places (c .args .seeds .now) (c .args .row)
 
 ok : (c : tie.Start) → let a = c .args in Taken limits01 (a .s) (a .seeds .now) (entry c) (a .tick) (a .bank) (a .thread)
-ok c = let a = c .args in taken limits01 (a .s) (a .seeds .now) (entry c) (a .tick) (a .bank) (a .thread) (c .pre)
+ok c = let a = c .args in taken limits01 (a .s) (a .seeds .now) (entry c) (a .tick) (a .bank) (a .thread) (c .pre .0)
 
 -- the state whose clock has moved
 abbrev moved : tie.After-turn → State
@@ -102,6 +102,7 @@ look-requires c κs =
       at-places .places .ensures .1,
       at-places .places .ensures .1,
       h .3 ∙ ap (λ d. epoch (start .args .s) (d .last)) (sym (h .0)),
+      start .pre .1 ∙ ap (λ d. getD (d .bank) (start .args .bank) 0) (sym (h .0)),
     )
 
 decide-requires : tie.Need-decide-requires

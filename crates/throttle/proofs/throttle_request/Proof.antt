@@ -1,4 +1,5 @@
 -- `throttle_request` is refused as the rules say, or is the rules' request.
+use Prim.Native.Nat.{_<_}
 use mathlib.Core.Path.{_≡_, sym, ap, _∙_}
 use native.Mathlib.Omega.{arith}
 use Rattle.rules.specs.declared.Setting.{Setting}
@@ -9,9 +10,9 @@ use Rattle.rules.specs.Clock.{turned}
 use Rattle.rules.specs.Hash.{places}
 use Rattle.rules.specs.Policy.{limits01, narrow}
 use Rattle.rules.specs.Calls.{answered, outcome, callRefusal, requested, step}
-use Rattle.rules.proofs.Accept.{number-none}
+use Rattle.rules.proofs.Accept.{number-none, taken}
 use Rattle.interface.specs.Left.{found}
-use Rattle.throttle.proofs.Settled.{left-refused, call-code, held, left-request}
+use Rattle.throttle.proofs.Settled.{left-refused, bank-word, call-code, held, left-request}
 use borrow.Author.Needs.{needs}
 use Rattle.throttle.proofs.throttle_request.Statement.{statement}
 use Rattle.throttle.proofs.throttle_request.Tie as tie
@@ -31,18 +32,26 @@ code-is c =
     call-code (s start) (a .seeds .now) (a .head .now) (a .counters .now) (a .ticks .now) (a .rows .now) (a .threads .now) _ (a .tick) (a .bank) (a .thread) _
     (c .call-refusal .ensures) (c .before .before .before .narrow-limits .ensures)
 
-taken : (c : tie.Else1) → let a = c .before .before .before .before .before .before .before .before .before .before .args in callRefusal limits01 (s (c .before .before .before .before .before .before .before .before .before .before)) (a .seeds .now) (entry (c .before .before .before .before .before .before .before .before .before .before)) (a .tick) (a .bank) (a .thread) ≡ none
-taken c = number-none _ (sym (code-is (c .before)) ∙ c .if1 .left)
+free : (c : tie.Else1) → let a = c .before .before .before .before .before .before .before .before .before .before .args in callRefusal limits01 (s (c .before .before .before .before .before .before .before .before .before .before)) (a .seeds .now) (entry (c .before .before .before .before .before .before .before .before .before .before)) (a .tick) (a .bank) (a .thread) ≡ none
+free c = number-none _ (sym (code-is (c .before)) ∙ c .if1 .left)
+
+-- so the bank is one of the head's sixteen
+in-head : (c : tie.Else1) → c .before .before .before .before .before .before .before .before .before .before .args .bank < 16
+in-head c =
+    let start = (c .before .before .before .before .before .before .before .before .before .before) in
+    let a = start .args in
+    let k = taken limits01 (s start) (a .seeds .now) (entry start) (a .tick) (a .bank) (a .thread) (free c) in
+    omega (arith, k .bank-in, k .setting .ranges .banks-high)
 
 -- the state that the request leaves
 abbrev after : tie.After-request → State
-after c = let q = c .request in state (q .result .head) (q .last .1 .1 .1 .0) (q .last .1 .1 .1 .1 .0) (q .last .1 .1 .1 .1 .1 .0) (q .last .1 .1 .1 .1 .1 .1 .0)
+after c = let q = c .request in state (q .result .head) (q .last .1 .1 .1 .1 .0) (q .last .1 .1 .1 .1 .1 .0) (q .last .1 .1 .1 .1 .1 .1 .0) (q .last .1 .1 .1 .1 .1 .1 .1 .0)
 
 -- what was loaded is what the words hold, so it is the rules' request
-left-by : (c : tie.After-request) → let a = c .before .before .before .before .before .before .before .before .before .before .before .before .before .before .before .before .before .before .args in
+left-by : (c : tie.After-request) → let a = c .before .before .before .before .before .before .before .before .before .before .before .before .before .before .before .before .before .before .before .args in
     outcome (answered (c .request .result .answer)) (after c)
-    ≡ requested narrow (s (c .before .before .before .before .before .before .before .before .before .before .before .before .before .before .before .before .before .before)) (λ f. places (a .seeds .now) (a .row)) (turned (s (c .before .before .before .before .before .before .before .before .before .before .before .before .before .before .before .before .before .before)) (entry (c .before .before .before .before .before .before .before .before .before .before .before .before .before .before .before .before .before .before)) (a .tick)) (a .bank) (a .thread) (a .row)
-left-by c = rw (c .before .before .before .before .before .before .before .load .ensures, c .before .before .before .before .before .load-head .ensures) at (c .request .ensures .0)
+    ≡ requested narrow (s (c .before .before .before .before .before .before .before .before .before .before .before .before .before .before .before .before .before .before .before)) (λ f. places (a .seeds .now) (a .row)) (turned (s (c .before .before .before .before .before .before .before .before .before .before .before .before .before .before .before .before .before .before .before)) (entry (c .before .before .before .before .before .before .before .before .before .before .before .before .before .before .before .before .before .before .before)) (a .tick)) (a .bank) (a .thread) (a .row)
+left-by c = rw (c .before .before .before .before .before .before .before .before .load .ensures, c .before .before .before .before .before .before .load-head .ensures) at (c .request .ensures .0)
 
 narrow-limits-requires : tie.Need-narrow-limits-requires
 narrow-limits-requires c κs = search needs
@@ -68,12 +77,21 @@ load-requires c κs = search needs
 load-head-requires : tie.Need-load-head-requires
 load-head-requires c κs = search needs
 
+add-request : tie.Need-add-request
+add-request c = let k = in-head (c .before .before .before) in omega arith
+
+mul-request : tie.Need-mul-request
+mul-request c = let k = in-head (c .before .before .before) in omega arith
+
+element-copy-out-request : tie.Need-element-copy-out-request
+element-copy-out-request c = let k = in-head (c .before .before .before) in omega arith
+
 request-requires : tie.Need-request-requires
-request-requires c κs = rw (c .before .before .before .before .before .before .load .ensures, c .before .before .before .before .load-head .ensures) (taken (c .before .before .before .before .before .before .before))
+request-requires c κs = rw (c .before .before .before .before .before .before .before .load .ensures, c .before .before .before .before .before .load-head .ensures) (free (c .before .before .before .before .before .before .before .before), bank-word (c .before .before .before .before .before .before .before .before .before .before .before .before .before .before .before .before .before .before .args .head .now) (c .before .before .before .before .before .before .before .before .before .before .before .before .before .before .before .before .before .before .args .bank) (in-head (c .before .before .before .before .before .before .before .before)))
 
 store-answered-requires : tie.Need-store-answered-requires
 store-answered-requires c κs =
-    let start = (c .before .before .before .before .before .before .before .before .before .before .before .before .before .before .before .before .before .before .before .before .before .before .before .before .before .before .before .before) in
+    let start = (c .before .before .before .before .before .before .before .before .before .before .before .before .before .before .before .before .before .before .before .before .before .before .before .before .before .before .before .before .before) in
     let a = start .args in
     held (s start) (a .seeds .now) (a .head .now) (a .counters .now) (a .ticks .now) (a .rows .now) (a .threads .now)
     (a .tick) (a .bank) (a .thread) (a .row) (c .before .before .before .before .before .before .before .before .before .before .request .result .answer) (after (c .before .before .before .before .before .before .before .before .before .before)) (left-by (c .before .before .before .before .before .before .before .before .before .before))
@@ -98,11 +116,11 @@ same-length-5 c = search needs
 
 returns-2 : tie.Need-returns-2
 returns-2 c =
-    let start = (c .before .before .before .before .before .before .before .before .before .before .before .before .before .before .before .before .before .before .before .before .before .before .before .before .before .before .before .before .before .before .before .before) in
+    let start = (c .before .before .before .before .before .before .before .before .before .before .before .before .before .before .before .before .before .before .before .before .before .before .before .before .before .before .before .before .before .before .before .before .before) in
     let a = start .args in
     rw (c .before .before .before .store-answered .ensures, c .before .before .answer-number .ensures, c .before .answer-wait .ensures)
     (left-request (s start) (a .seeds .now) (a .head .now) (a .counters .now) (a .ticks .now) (a .rows .now) (a .threads .now)
-    (a .tick) (a .bank) (a .thread) (a .row) (a .out .now) (ap refusalNumber (taken (c .before .before .before .before .before .before .before .before .before .before .before .before .before .before .before .before .before .before .before .before .before .before))) (c .before .before .before .before .before .before .before .before .before .before .before .before .before .before .request .result .answer) (after (c .before .before .before .before .before .before .before .before .before .before .before .before .before .before)) (left-by (c .before .before .before .before .before .before .before .before .before .before .before .before .before .before)))
+    (a .tick) (a .bank) (a .thread) (a .row) (a .out .now) (ap refusalNumber (free (c .before .before .before .before .before .before .before .before .before .before .before .before .before .before .before .before .before .before .before .before .before .before .before))) (c .before .before .before .before .before .before .before .before .before .before .before .before .before .before .request .result .answer) (after (c .before .before .before .before .before .before .before .before .before .before .before .before .before .before)) (left-by (c .before .before .before .before .before .before .before .before .before .before .before .before .before .before)))
 
 pub throttle-request-spec : {M : Type 1} → statement M
 throttle-request-spec =
@@ -114,6 +132,9 @@ throttle-request-spec =
     returns
     load-requires
     load-head-requires
+    add-request
+    mul-request
+    element-copy-out-request
     request-requires
     store-answered-requires
     answer-number-requires

@@ -8,6 +8,10 @@ use borrow.Author.Needs.{needs}
 use Rattle.state.proofs.look.look.Statement.{statement}
 use Rattle.state.proofs.look.look.Tie as tie
 
+-- the start, from where the delay is known
+abbrev from : tie.After-delay → tie.Start
+from c = c .before .before .before .before .before .before .before .before .before .before
+
 cell-requires : tie.Need-cell-requires
 cell-requires c κs = search needs
 
@@ -37,39 +41,33 @@ quota-requires c κs = search needs
 
 delay-requires : tie.Need-delay-requires
 delay-requires c κs =
-    let r = c .before .before .before .before .before .before .before .before .before .before .pre .0 in
+    let r = c .before .before .before .before .before .before .before .before .before .pre .0 in
     (r .bounds, r .memory, r .ticks-long, r .rows-long, omega (arith, r .bank-in, r .bounds .ranges .banks-high), r .early)
 
 add-end : tie.Need-add-end
 add-end c =
-    let start = c .before .before .before .before .before .before .before .before .before .before .before in
+    let start = from c in
     let a = start .args in
     let e : a .e ≡ a .h .last / (a .s .w / 2) = start .pre .1 in
     omega (arith, div-le-self (a .h .last) (a .s .w / 2), start .pre .0 .early)
 
 mul-end : tie.Need-mul-end
 mul-end c =
-    let start = c .before .before .before .before .before .before .before .before .before .before .before in
+    let start = from c in
     let a = start .args in
     let e : a .e ≡ a .h .last / (a .s .w / 2) = start .pre .1 in
     rw e (omega (arith, end-small (a .h .last) (a .s .w / 2) (omega (arith, start .pre .0 .bounds .ranges .w-high)) (start .pre .0 .early)))
 
-mul-t24 : tie.Need-mul-t24
-mul-t24 c = search needs
-
-array-read-t23 : tie.Need-array-read-t23
-array-read-t23 c = search needs
-
-array-read-t33 : tie.Need-array-read-t33
-array-read-t33 c = search needs
+array-read-t22 : tie.Need-array-read-t22
+array-read-t22 c = search needs
 
 returns : tie.Need-returns
 returns c =
-    let start = c .before .before .before .before .before .before .before .before .before .before .before in
-    let at-cell = c .before .before .before .before .before .before in
+    let start = from c in
+    let at-cell = c .before .before .before .before .before in
     let a = start .args in
     view-parts (a .s) (a .active) (a .other) (a .h) (a .ticks .now) (a .rows .now) (a .threads .now) (a .bank) (a .thread) (a .row) (a .e % 2) (at-cell .cell .result) _
-    (ap (λ x. x % 2) (start .pre .1)) (at-cell .cell .ensures .0) refl (c .before .before .before .quota .ensures .0) refl refl refl refl (c .delay .ensures) (ap (λ x. (x + 1) * (a .s .w / 2)) (start .pre .1))
+    (ap (λ x. x % 2) (start .pre .1)) (at-cell .cell .ensures .0) refl (c .before .before .quota .ensures .0) (start .pre .2) refl refl refl (c .delay .ensures) (ap (λ x. (x + 1) * (a .s .w / 2)) (start .pre .1))
 
 pub look-spec : {M : Type 1} → statement M
 look-spec =
@@ -87,7 +85,5 @@ look-spec =
     delay-requires
     add-end
     mul-end
-    mul-t24
-    array-read-t23
-    array-read-t33
+    array-read-t22
     returns)
