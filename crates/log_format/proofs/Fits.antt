@@ -13,7 +13,7 @@ use Rattle.rules.specs.Setting.{settingOf, settingRefusal}
 use Rattle.rules.specs.declared.Limits.{Limits}
 use Rattle.rules.proofs.Tests.{and-l, and-r, holds}
 use Rattle.rules.proofs.Places.{seeds-long}
-use Rattle.rules.proofs.Accept.{accepted}
+use Rattle.rules.proofs.Accept.{accepted, scale-pos}
 use Rattle.log_format.specs.declared.Entry.{Entry}
 use Rattle.log_format.specs.Encode.{written, putRecord, recordFits, recordWritten, sealFits, sealWritten, startFits, startBlock, startWritten, putRecords, recordsBlock}
 use Rattle.log_format.specs.Claims.{Writable}
@@ -81,17 +81,17 @@ unfolding sealWritten sealFits recordsBlock
 seal-call s b es lo hi some few =
     rw (le-leb 1 b lo, le-leb b 4294967295 (omega arith), le-leb 1 (length es) some, le-leb (length es) 20 few)
 
--- an accepted setting can be written
-pub start-call : (m : Limits) → m .threshold < 2 ^ 32 → (s setting seeds : List ℕ) → settingRefusal m (settingOf setting) seeds ≡ none
+-- an accepted setting can be written: N too is within 32 bits, since it is below L
+pub start-call : (m : Limits) (s setting seeds : List ℕ) → settingRefusal m (settingOf setting) seeds ≡ none
     → startWritten s setting seeds ≡ written 0 (startBlock s setting seeds)
 unfolding startWritten startFits settingOf
-start-call m small s setting seeds e =
+start-call m s setting seeds e =
     let ok = accepted m (settingOf setting) seeds e in
     rw (
       lt-ltb (getD setting 0 0) (2 ^ 32) (omega (arith, ok .ranges .w-high)),
       lt-ltb (getD setting 1 0) (2 ^ 32) (omega (arith, ok .ranges .trc-high)),
       lt-ltb (getD setting 2 0) (2 ^ 32) (omega (arith, ok .ranges .tfaw-high)),
-      lt-ltb (getD setting 3 0) (2 ^ 32) (omega (arith, ok .ranges .n-high)),
+      lt-ltb (getD setting 3 0) (2 ^ 32) (omega (arith, scale-pos ok, ok .ranges .l-high)),
       lt-ltb (getD setting 4 0) (2 ^ 32) (omega (arith, ok .ranges .td-high)),
       lt-ltb (getD setting 5 0) (2 ^ 32) (omega (arith, ok .ranges .l-high)),
       lt-ltb (getD setting 6 0) (2 ^ 32) (omega (arith, ok .ranges .q-high)),

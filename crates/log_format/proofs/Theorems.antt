@@ -13,5 +13,5 @@ theorems =
       onlyIfAnywhere = only-if-anywhere;
       wheneverAnywhere = whenever-anywhere;
       writtenAgrees = written-agrees;
-      callsWrite = λ m small. record { start = start-call m small; put = record-call; seal = seal-call };
+      callsWrite = λ m. record { start = start-call m; put = record-call; seal = seal-call };
     }

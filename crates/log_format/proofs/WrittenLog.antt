@@ -14,7 +14,7 @@ use Rattle.rules.specs.Setting.{settingOf}
 use Rattle.rules.specs.declared.Limits.{Limits}
 use Rattle.rules.specs.Policy.{Policy}
 use Rattle.rules.proofs.Places.{seed-small, seeds-long}
-use Rattle.rules.proofs.Accept.{accepted}
+use Rattle.rules.proofs.Accept.{accepted, scale-pos}
 use Rattle.rules.specs.Tested.{Accepted}
 use Rattle.log_format.specs.declared.Entry.{Entry}
 use Rattle.log_format.specs.Bytes.{little, zeros, blockAt, blocksFrom}
@@ -67,14 +67,14 @@ module _ (s setting seeds : List ℕ) (len : length s ≡ 512) where
       little-same (startBlock s setting seeds) (putStart s setting seeds) (44 + 2 * i) 2 8 172 (start-frame .body) (omega arith) (omega arith)
       ∙ (rw (zero-add i) at r)
 
-  pub start-setting : (m : Limits) → m .threshold < 2 ^ 32 → Accepted m (settingOf setting) seeds → settingIn (startBlock s setting seeds) ≡ settingOf setting
+  pub start-setting : (m : Limits) → Accepted m (settingOf setting) seeds → settingIn (startBlock s setting seeds) ≡ settingOf setting
   unfolding settingIn settingOf
-  start-setting m small ok =
+  start-setting m ok =
       rw (
         start-number 0 (omega arith) (omega (arith, ok .ranges .w-high)),
         start-number 1 (omega arith) (omega (arith, ok .ranges .trc-high)),
         start-number 2 (omega arith) (omega (arith, ok .ranges .tfaw-high)),
-        start-number 3 (omega arith) (omega (arith, ok .ranges .n-high)),
+        start-number 3 (omega arith) (omega (arith, scale-pos ok, ok .ranges .l-high)),
         start-number 4 (omega arith) (omega (arith, ok .ranges .td-high)),
         start-number 5 (omega arith) (omega (arith, ok .ranges .l-high)),
         start-number 6 (omega arith) (omega (arith, ok .ranges .q-high)),
@@ -168,9 +168,9 @@ blocks-of p b (t ∷ ss) lp a =
 
 -- ---- the log
 
-pub written-agrees : (p : Policy) → p .limits .threshold < 2 ^ 32 → WrittenAgrees p
+pub written-agrees : (p : Policy) → WrittenAgrees p
 unfolding logBytesOver
-written-agrees p small old setting seeds es len e w few d =
+written-agrees p old setting seeds es len e w few d =
     let ok = accepted (p .limits) (settingOf setting) seeds e in
     let t = startBlock (old 0) setting seeds in
     let ss = laterBlocks old (length es) 1 es in
@@ -182,7 +182,7 @@ written-agrees p small old setting seeds es len e w few d =
     let b0 : blockAt bytes 0 ≡ t = block-of [] t (joined ss) 0 refl lt in
     let bs : laterOf bytes ≡ ss = ap (λ (k : ℕ). blocksFrom bytes 1 k) n ∙ blocks-of t 1 ss (omega arith) (f .lengths) in
     let es-is : recordsOf bytes ≡ es = ap entriesOf bs ∙ f .records in
-    let set-is : settingOfLog bytes ≡ settingOf setting = ap settingIn b0 ∙ start-setting (old 0) setting seeds (len 0) (p .limits) small ok in
+    let set-is : settingOfLog bytes ≡ settingOf setting = ap settingIn b0 ∙ start-setting (old 0) setting seeds (len 0) (p .limits) ok in
     let seeds-is : seedsOfLog bytes ≡ seeds = ap seedsIn b0 ∙ start-seeds (old 0) setting seeds (len 0) (p .limits) ok in
     let faithful : Faithful p bytes =
     record {

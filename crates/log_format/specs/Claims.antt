@@ -117,8 +117,7 @@ pub record Writable (e : Entry) : Type 0 where
   pub answer : e .answer ≤ 4
 
 -- What the encoder writes is accepted: a log of the rules' decisions under an accepted setting, of any length that block numbers of
--- 32 bits allow, each block written over any 512 bytes, others for each block or the same. (It is proved where N is within 32 bits, as the
--- format has it.)
+-- 32 bits allow, each block written over any 512 bytes, others for each block or the same.
 abbrev pub WrittenAgrees : Policy → Type 0
 WrittenAgrees p =
     (old : ℕ → List ℕ) (setting seeds : List ℕ) (es : List Entry) → ((b : ℕ) → length (old b) ≡ 512)
@@ -160,11 +159,11 @@ WheneverAnywhere p =
 
 -- ---- all of it
 
--- For every policy; in any memory for every one whose in flight depends on the used thread counters alone; the encoder's, for limits whose greatest N has 32 bits.
+-- For every policy; in any memory for every one whose in flight depends on the used thread counters alone; that the encoder's calls refuse none, for all limits.
 pub record Theorems : Type 0 where
   pub onlyIf : (p : Policy) → OnlyIf p
   pub whenever : (p : Policy) → Whenever p
   pub onlyIfAnywhere : (p : Policy) → UsedFlying p → OnlyIfAnywhere p
   pub wheneverAnywhere : (p : Policy) → UsedFlying p → WheneverAnywhere p
-  pub writtenAgrees : (p : Policy) → p .limits .threshold < 2 ^ 32 → WrittenAgrees p
-  pub callsWrite : (m : Limits) → m .threshold < 2 ^ 32 → CallsWrite m
+  pub writtenAgrees : (p : Policy) → WrittenAgrees p
+  pub callsWrite : (m : Limits) → CallsWrite m

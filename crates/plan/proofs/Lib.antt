@@ -1,10 +1,2 @@
-pub mod Numbers
 pub mod Served
-pub mod Shape
-pub mod Interval
-pub mod Answer
-pub mod Trade
-pub mod Only
-pub mod Theorems
-pub mod Samples
 pub mod Lasting

@@ -1,4 +1,1 @@
-pub mod Delays
 pub mod Plan
-pub mod Claims
-pub mod Samples

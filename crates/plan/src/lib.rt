@@ -1,21 +1,15 @@
 // Which delays tD a setting is accepted with: the least and the greatest, or the refusal that stands in the way.
 // The functions take the limits of a width; an exported call fixes them.
-// The definitions that the contracts cite are in specs/, with the statements of what they mean.
+// The definitions that the contracts cite are in specs/ and in the crate `plan_delays`, with the statements of what they mean.
+use plan_delays::Plan;
 ghost use mathlib.Core.Path.{_≡_};
 ghost use Prim.Native.Nat.{_+_, _-_, _*_, _^_, _≤_, _<_, min, max};
 ghost use Rattle.rules.specs.Answers.{refusalNumber};
 ghost use Rattle.rules.specs.Setting.{settingOf, rowBound};
 ghost use Rattle.rules.specs.Policy.{limits01};
-ghost use Rattle.plan.specs.Delays.{withDelay, withThreshold, delayRefusal, AcceptedDelay};
-ghost use Rattle.plan.specs.Plan.{smallestDelay, greatestDelay, delaysAbove, delaysOf, hasDelay, Last, Served, costOf, left, leaves};
-
-// The delays that a setting is accepted with.
-pub enum Plan {
-    // Those from least to greatest.
-    Between { least: u64, greatest: u64 },
-    // None; the number of the refusal.
-    Nothing { refusal: u32 },
-}
+ghost use Rattle.plan_delays.specs.Delays.{withDelay, withThreshold, delayRefusal, AcceptedDelay};
+ghost use Rattle.plan_delays.specs.Answer.{smallestDelay, greatestDelay, delaysAbove, delaysOf};
+ghost use Rattle.plan.specs.Plan.{hasDelay, Last, Served, costOf, left, leaves};
 
 // What a setting costs.
 pub struct Cost {

@@ -52,7 +52,7 @@ fn print_line(s: rules::Setting) {
     let m = setting::narrow_limits();
     let p = plan::delays(m, s);
     match p {
-        plan::Plan::Between { least, greatest } => {
+        plan_delays::Plan::Between { least, greatest } => {
             let c = plan::costs(m, s, least);
             print_cell(least);
             print_nanoseconds(least);
@@ -62,7 +62,7 @@ fn print_line(s: rules::Setting) {
             print_cell(c.bytes);
             print(b"\n");
         }
-        plan::Plan::Nothing { refusal } => {
+        plan_delays::Plan::Nothing { refusal } => {
             print(b" has no delay: ");
             print_reason(refusal);
         }

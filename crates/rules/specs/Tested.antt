@@ -70,16 +70,16 @@ pub record Sound (s : Setting) (st : State) : Type 0 where
 -- ---- calls
 
 -- set-up that is not refused
-pub record SetUp (m : Limits) (s : Setting) (seeds : List ℕ) (st : State) : Type 0 where
+pub record SetUp (m : Limits) (s : Setting) (seeds : List ℕ) (before : State) : Type 0 where
   pub setting : Accepted m s seeds
-  pub long : Long s st
+  pub long : Long s before
 
 -- a request, a done or an index reading that is not refused with 1 to 9
-pub record Taken (m : Limits) (s : Setting) (seeds : List ℕ) (st : State) (t bank thread : ℕ) : Type 0 where
+pub record Taken (m : Limits) (s : Setting) (seeds : List ℕ) (found : State) (t bank thread : ℕ) : Type 0 where
   pub setting : Accepted m s seeds
-  pub long : Long s st
-  pub memory : T (memoryOk s st)
+  pub long : Long s found
+  pub memory : T (memoryOk s found)
   pub bank-in : bank < s .banks
   pub thread-in : thread < s .threads
-  pub later : st .head .last ≤ t
+  pub later : found .head .last ≤ t
   pub early : t < 2 ^ 62

@@ -4,9 +4,9 @@ use mathlib.Core.Path.{_≡_, ap, _∙_}
 use Rattle.rules.specs.declared.Setting.{Setting}
 use Rattle.rules.specs.Setting.{historyLength}
 use Rattle.rules.specs.Tested.{Accepted}
-use Rattle.plan.specs.Delays.{withDelay, someSeeds}
+use Rattle.plan_delays.specs.Delays.{withDelay, someSeeds}
 use Rattle.plan.specs.Plan.{costOf}
-use Rattle.plan.proofs.Interval.{accepted-delay}
+use Rattle.plan_delays.proofs.Interval.{accepted-delay}
 use borrow.Author.Needs.{needs}
 use Rattle.plan.proofs.costs.Statement.{statement}
 use Rattle.plan.proofs.costs.Tie as tie

@@ -1,5 +1,5 @@
 -- `plan::delay_refusal`: by what `setting::refusal` ensures of the setting with that delay and of 64 seeds in range.
-use Rattle.plan.specs.Delays.{delayRefusal}
+use Rattle.plan_delays.specs.Delays.{delayRefusal}
 use borrow.Author.Needs.{needs}
 use Rattle.plan.proofs.delay_refusal.Statement.{statement}
 use Rattle.plan.proofs.delay_refusal.Tie as tie

@@ -8,10 +8,10 @@ use borrow.Author.Tests.{le-leb, lt-leb, eq-eqb, ne-eqb}
 use Rattle.rules.specs.declared.Setting.{Setting}
 use Rattle.rules.specs.declared.Limits.{Limits}
 use Rattle.rules.specs.Tested.{Ranges}
-use Rattle.plan.specs.declared.Plan.the-variants.{Nothing}
-use Rattle.plan.specs.Delays.{withDelay}
-use Rattle.plan.specs.Plan.{delaysAbove, delaysOf}
-use Rattle.plan.proofs.Shape.{Other, other-number, other-ranges, other-room}
+use Rattle.plan_delays.specs.declared.Plan.the-variants.{Nothing}
+use Rattle.plan_delays.specs.Delays.{withDelay}
+use Rattle.plan_delays.specs.Answer.{delaysAbove, delaysOf}
+use Rattle.plan_delays.proofs.Shape.{Other, other-number, other-ranges, other-room}
 use borrow.Author.Needs.{needs}
 use Rattle.plan.proofs.delays.Statement.{statement}
 use Rattle.plan.proofs.delays.Tie as tie

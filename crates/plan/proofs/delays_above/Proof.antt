@@ -7,9 +7,9 @@ use borrow.Author.Tests.{le-leb, lt-leb, lt-ltb, le-ltb}
 use Rattle.rules.specs.declared.Setting.{Setting}
 use Rattle.rules.specs.declared.Limits.{Limits}
 use Rattle.rules.specs.Answers.{refusalNumber}
-use Rattle.plan.specs.declared.Plan.the-variants.{Nothing}
-use Rattle.plan.specs.Delays.{delayRefusal}
-use Rattle.plan.specs.Plan.{leastDelay, delaysAbove}
+use Rattle.plan_delays.specs.declared.Plan.the-variants.{Nothing}
+use Rattle.plan_delays.specs.Delays.{delayRefusal}
+use Rattle.plan_delays.specs.Answer.{leastDelay, delaysAbove}
 use borrow.Author.Needs.{needs}
 use Rattle.plan.proofs.delays_above.Statement.{statement}
 use Rattle.plan.proofs.delays_above.Tie as tie

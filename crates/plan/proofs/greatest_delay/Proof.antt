@@ -1,6 +1,6 @@
 -- `plan::greatest_delay`: by what `smaller` ensures.
 use native.Mathlib.Omega.{arith}
-use Rattle.plan.specs.Plan.{greatestDelay}
+use Rattle.plan_delays.specs.Answer.{greatestDelay}
 use Rattle.plan.proofs.Served.{places-small}
 use borrow.Author.Needs.{needs}
 use Rattle.plan.proofs.greatest_delay.Statement.{statement}

@@ -1,7 +1,8 @@
 -- `plan::has_delay`: by cases of the answer.
 use mathlib.Core.Path.{_≡_, sym, ap, _∙_}
-use Rattle.plan.specs.Delays.{withThreshold}
-use Rattle.plan.specs.Plan.{given, delaysOf, hasDelay}
+use Rattle.plan_delays.specs.Delays.{withThreshold}
+use Rattle.plan_delays.specs.Answer.{delaysOf}
+use Rattle.plan.specs.Plan.{given, hasDelay}
 use borrow.Author.Needs.{needs}
 use Rattle.plan.proofs.has_delay.Statement.{statement}
 use Rattle.plan.proofs.has_delay.Tie as tie

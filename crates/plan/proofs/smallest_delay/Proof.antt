@@ -3,7 +3,7 @@ use Prim.Native.Nat.{_-_, _*_}
 use mathlib.Core.Path.{refl}
 use native.Mathlib.Omega.{arith}
 use native.Mathlib.Nat.{div-le-self}
-use Rattle.plan.specs.Plan.{smallestDelay}
+use Rattle.plan_delays.specs.Answer.{smallestDelay}
 use borrow.Author.Needs.{needs}
 use Rattle.plan.proofs.smallest_delay.Statement.{statement}
 use Rattle.plan.proofs.smallest_delay.Tie as tie

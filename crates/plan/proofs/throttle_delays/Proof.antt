@@ -4,8 +4,9 @@ use mathlib.Core.List.{List}
 use Prim.Native.Nat.{ℕ}
 use Rattle.rules.specs.Setting.{settingOf}
 use Rattle.rules.specs.Policy.{limits01}
-use Rattle.plan.specs.declared.Plan.{Plan}
-use Rattle.plan.specs.Plan.{delaysOf, leaves}
+use Rattle.plan_delays.specs.declared.Plan.{Plan}
+use Rattle.plan_delays.specs.Answer.{delaysOf}
+use Rattle.plan.specs.Plan.{leaves}
 use Rattle.plan.proofs.Served.{narrow-served}
 use borrow.Author.Needs.{needs}
 use Rattle.plan.proofs.throttle_delays.Statement.{statement}

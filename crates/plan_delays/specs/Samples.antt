@@ -4,9 +4,9 @@ use mathlib.Core.Path.{_≡_}
 use Rattle.rules.specs.Answers.{aboveLimit}
 use Rattle.rules.specs.Policy.{limits01}
 use Rattle.rules.specs.Samples.{S, tableOne}
-use Rattle.plan.specs.declared.Plan.the-variants.{Between, Nothing}
-use Rattle.plan.specs.Delays.{delayRefusal}
-use Rattle.plan.specs.Plan.{delaysOf}
+use Rattle.plan_delays.specs.declared.Plan.the-variants.{Between, Nothing}
+use Rattle.plan_delays.specs.Delays.{delayRefusal}
+use Rattle.plan_delays.specs.Answer.{delaysOf}
 
 pub record Cases : Type 0 where
   -- "W 256,000,000, tRC 185, N 4,096, tD 31,065: B = 16,384. With tD 31,064: 16,385."

@@ -9,8 +9,8 @@ use Rattle.rules.specs.declared.Setting.{Setting}
 use Rattle.rules.specs.declared.Limits.{Limits}
 use Rattle.rules.specs.Answers.{Refusal, none, outOfRange, shortWindow, refusalNumber}
 use Rattle.rules.specs.Setting.{rowBound, settingRefusal}
-use Rattle.plan.specs.declared.Plan.{Plan}
-use Rattle.plan.specs.declared.Plan.the-variants.{Between, Nothing}
+use Rattle.plan_delays.specs.declared.Plan.{Plan}
+use Rattle.plan_delays.specs.declared.Plan.the-variants.{Between, Nothing}
 
 -- the setting with another delay tD
 abbrev pub withDelay : Setting → ℕ → Setting

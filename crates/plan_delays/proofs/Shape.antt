@@ -13,8 +13,8 @@ use Rattle.rules.specs.Setting.{epochLength, historyLength, rowBound, fieldsInR
 use Rattle.rules.proofs.Tests.{is-true, and-l, not-not}
 use Rattle.rules.proofs.Accept.{ranges, refuse-none}
 use Rattle.rules.specs.Tested.{Ranges}
-use Rattle.plan.specs.Delays.{withDelay, withThreshold, someSeeds, delayRefusal, InRange}
-use Rattle.plan.specs.Claims.{SeedsPlayNoPart}
+use Rattle.plan_delays.specs.Delays.{withDelay, withThreshold, someSeeds, delayRefusal, InRange}
+use Rattle.plan_delays.specs.Claims.{SeedsPlayNoPart}
 
 -- ---- the parts of the refusal
 

@@ -11,15 +11,15 @@ use Rattle.rules.specs.declared.Limits.{Limits}
 use Rattle.rules.specs.Answers.{refusalNumber}
 use Rattle.rules.specs.Setting.{historyLength, rowBound}
 use Rattle.rules.specs.Tested.{Accepted}
-use Rattle.plan.specs.declared.Plan.{Plan}
-use Rattle.plan.specs.declared.Plan.the-variants.{Between, Nothing}
-use Rattle.plan.specs.Delays.{withDelay, withThreshold, someSeeds, delayRefusal, AcceptedDelay, Ends, Says}
-use Rattle.plan.specs.Plan.{smallestDelay, leastDelay, greatestDelay, delaysAbove, delaysOf}
-use Rattle.plan.specs.Claims.{LongerDelay, Nested, Grows, UpToLast, Flat, Decided}
-use Rattle.plan.proofs.Numbers.{quotient-falls, ceil-grows, bound-grows, room-kept, smallest-below, smallest-above}
-use Rattle.plan.proofs.Shape.{any-threshold, accept, accepted-fields}
-use Rattle.plan.proofs.Interval.{accepted-delay, inside}
-use Rattle.plan.proofs.Answer.{right}
+use Rattle.plan_delays.specs.declared.Plan.{Plan}
+use Rattle.plan_delays.specs.declared.Plan.the-variants.{Between, Nothing}
+use Rattle.plan_delays.specs.Delays.{withDelay, withThreshold, someSeeds, delayRefusal, AcceptedDelay, Ends, Says}
+use Rattle.plan_delays.specs.Answer.{smallestDelay, leastDelay, greatestDelay, delaysAbove, delaysOf}
+use Rattle.plan_delays.specs.Claims.{LongerDelay, Nested, Grows, UpToLast, Flat, Decided}
+use Rattle.plan_delays.proofs.Numbers.{quotient-falls, ceil-grows, bound-grows, room-kept, smallest-below, smallest-above}
+use Rattle.plan_delays.proofs.Shape.{any-threshold, accept, accepted-fields}
+use Rattle.plan_delays.proofs.Interval.{accepted-delay, inside}
+use Rattle.plan_delays.proofs.Answer.{right}
 
 -- ---- a longer delay
 

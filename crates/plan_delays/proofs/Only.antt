@@ -11,12 +11,12 @@ use Rattle.rules.specs.declared.Setting.{Setting}
 use Rattle.rules.specs.declared.Limits.{Limits}
 use Rattle.rules.specs.Answers.{Refusal, outOfRange, shortWindow, aboveLimit, refusalNumber}
 use Rattle.rules.specs.Setting.{epochLength, historyLength, rowBound}
-use Rattle.plan.specs.declared.Plan.the-variants.{Between, Nothing}
-use Rattle.plan.specs.Delays.{withDelay, delayRefusal, InRange, Ends, Smallest, Reason, everyDelay, smallestDelay, noDelay}
-use Rattle.plan.specs.Claims.{OnlyOne}
-use Rattle.plan.proofs.Shape.{Other, other, other-ranges, other-room, other-shape, late, lateOf, one}
-use Rattle.plan.proofs.Interval.{history-ok}
-use Rattle.plan.proofs.Numbers.{epoch-holds}
+use Rattle.plan_delays.specs.declared.Plan.the-variants.{Between, Nothing}
+use Rattle.plan_delays.specs.Delays.{withDelay, delayRefusal, InRange, Ends, Smallest, Reason, everyDelay, smallestDelay, noDelay}
+use Rattle.plan_delays.specs.Claims.{OnlyOne}
+use Rattle.plan_delays.proofs.Shape.{Other, other, other-ranges, other-room, other-shape, late, lateOf, one}
+use Rattle.plan_delays.proofs.Interval.{history-ok}
+use Rattle.plan_delays.proofs.Numbers.{epoch-holds}
 
 -- neither is below the other
 neither-below : (a b : ℕ) → (a < b → ⊥) → (b < a → ⊥) → a ≡ b

@@ -11,13 +11,13 @@ use Rattle.rules.specs.declared.Setting.{Setting}
 use Rattle.rules.specs.declared.Limits.{Limits}
 use Rattle.rules.specs.Answers.{none, outOfRange, shortWindow, refusalNumber}
 use Rattle.rules.specs.Setting.{rowBound}
-use Rattle.plan.specs.declared.Plan.the-variants.{Between, Nothing}
-use Rattle.plan.specs.Delays.{withDelay, delayRefusal, InRange, Ends, Smallest, Reason, everyDelay, smallestDelay, noDelay, Says}
-use Rattle.plan.specs.Plan as plan
-use Rattle.plan.specs.Plan.{leastDelay, greatestDelay, delaysAbove, delaysOf}
-use Rattle.plan.specs.Claims.{Right, DelayPlaysNoPart}
-use Rattle.plan.proofs.Shape.{Other, other-number, every-one, every-two, neither}
-use Rattle.plan.proofs.Interval.{smallest-low, bounded, unbounded, never-bounded, accepted-delay, inside, accept-between}
+use Rattle.plan_delays.specs.declared.Plan.the-variants.{Between, Nothing}
+use Rattle.plan_delays.specs.Delays.{withDelay, delayRefusal, InRange, Ends, Smallest, Reason, everyDelay, smallestDelay, noDelay, Says}
+use Rattle.plan_delays.specs.Answer as closed
+use Rattle.plan_delays.specs.Answer.{leastDelay, greatestDelay, delaysAbove, delaysOf}
+use Rattle.plan_delays.specs.Claims.{Right, DelayPlaysNoPart}
+use Rattle.plan_delays.proofs.Shape.{Other, other-number, every-one, every-two, neither}
+use Rattle.plan_delays.proofs.Interval.{smallest-low, bounded, unbounded, never-bounded, accepted-delay, inside, accept-between}
 
 -- by cases of a test, with what each case shows
 by-test : {A : Type 0} (P : A → Type 0) (b : Bool) (x y : A) → (b ≡ true → P x) → (b ≡ false → P y) → P (cond b x y)
@@ -58,11 +58,11 @@ empty m s h td e =
 no-bound : (m : Limits) (s : Setting) → Other m s → ((td : ℕ) → InRange td → s .l < rowBound (withDelay s td)) → Reason m s 5
 no-bound m s o f = noDelay refl (λ td h. let k = neither m s o td h in (f td h, k .0, k .1))
 
-smallest : (s : Setting) → 2 * s .n < s .l → plan.smallestDelay s ≤ 2 ^ 29 → Smallest s (plan.smallestDelay s)
+smallest : (s : Setting) → 2 * s .n < s .l → closed.smallestDelay s ≤ 2 ^ 29 → Smallest s (closed.smallestDelay s)
 smallest s free h =
     record {
       in-range = (smallest-low s, h);
-      bounded = bounded s (plan.smallestDelay s) free (le-refl (plan.smallestDelay s));
+      bounded = bounded s (closed.smallestDelay s) free (le-refl (closed.smallestDelay s));
       first = λ td h1 k. unbounded s td h1 free k;
     }
 
@@ -73,11 +73,11 @@ above m s o free =
     (λ e. ends m s o free (leb-true (leastDelay s) (greatestDelay m s) e))
     (λ e.
     let nothing = empty m s (leb-false (leastDelay s) (greatestDelay m s) e) in
-    by-test (Says m s) (ltb (2 ^ 29) (plan.smallestDelay s)) (Nothing 5) _
+    by-test (Says m s) (ltb (2 ^ 29) (closed.smallestDelay s)) (Nothing 5) _
     (λ k.
-    let far = ltb-true (2 ^ 29) (plan.smallestDelay s) k in
+    let far = ltb-true (2 ^ 29) (closed.smallestDelay s) k in
     (nothing, no-bound m s o (λ td h. unbounded s td (h .0) free (omega arith))))
-    (λ k. (nothing, smallestDelay (plan.smallestDelay s) (smallest s free (ltb-false (2 ^ 29) (plan.smallestDelay s) k)) refl)))
+    (λ k. (nothing, smallestDelay (closed.smallestDelay s) (smallest s free (ltb-false (2 ^ 29) (closed.smallestDelay s) k)) refl)))
 
 pub right : Right
 unfolding delaysOf
@@ -101,5 +101,5 @@ right m s =
     (λ e. above m s o (leb-false (s .l) (2 * s .n) e))))
 
 pub delay-plays-no-part : DelayPlaysNoPart
-unfolding delaysOf delaysAbove leastDelay greatestDelay plan.smallestDelay delayRefusal
+unfolding delaysOf delaysAbove leastDelay greatestDelay closed.smallestDelay delayRefusal
 delay-plays-no-part m s td = refl

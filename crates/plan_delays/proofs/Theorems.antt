@@ -1,9 +1,9 @@
 -- The statements of `Claims`, all of them.
-use Rattle.plan.specs.Claims.{Theorems}
-use Rattle.plan.proofs.Shape.{seeds-play-no-part}
-use Rattle.plan.proofs.Answer.{right, delay-plays-no-part}
-use Rattle.plan.proofs.Only.{only-one}
-use Rattle.plan.proofs.Trade.{longer-delay, nested, grows, up-to-last, flat, decided}
+use Rattle.plan_delays.specs.Claims.{Theorems}
+use Rattle.plan_delays.proofs.Shape.{seeds-play-no-part}
+use Rattle.plan_delays.proofs.Answer.{right, delay-plays-no-part}
+use Rattle.plan_delays.proofs.Only.{only-one}
+use Rattle.plan_delays.proofs.Trade.{longer-delay, nested, grows, up-to-last, flat, decided}
 
 pub theorems : Theorems
 theorems =

@@ -6,10 +6,10 @@ use lib.Dec.{T}
 use Rattle.rules.specs.declared.Setting.{Setting}
 use Rattle.rules.specs.declared.Limits.{Limits}
 use Rattle.rules.specs.Setting.{historyLength, rowBound, seedsInRange, settingRefusal}
-use Rattle.plan.specs.declared.Plan.{Plan}
-use Rattle.plan.specs.declared.Plan.the-variants.{Between, Nothing}
-use Rattle.plan.specs.Delays.{withDelay, withThreshold, delayRefusal, AcceptedDelay, Says}
-use Rattle.plan.specs.Plan.{smallestDelay, delaysOf}
+use Rattle.plan_delays.specs.declared.Plan.{Plan}
+use Rattle.plan_delays.specs.declared.Plan.the-variants.{Between, Nothing}
+use Rattle.plan_delays.specs.Delays.{withDelay, withThreshold, delayRefusal, AcceptedDelay, Says}
+use Rattle.plan_delays.specs.Answer.{smallestDelay, delaysOf}
 
 -- The answer is right for all limits and every setting: both ends are accepted, every delay between them is, none outside them is;
 -- or none is, and the refusal is the one that `Reason` describes.

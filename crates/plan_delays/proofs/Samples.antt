@@ -1,9 +1,9 @@
 -- The cases about delays, by computation.
 use mathlib.Core.Path.{refl}
 use Rattle.rules.specs.Setting.{settingOf, historyLength, rowBound, fieldsInRange, seedsInRange, settingRefusal}
-use Rattle.plan.specs.Delays.{delayRefusal}
-use Rattle.plan.specs.Plan.{smallestDelay, leastDelay, greatestDelay, delaysAbove, delaysOf}
-use Rattle.plan.specs.Samples.{Cases}
+use Rattle.plan_delays.specs.Delays.{delayRefusal}
+use Rattle.plan_delays.specs.Answer.{smallestDelay, leastDelay, greatestDelay, delaysAbove, delaysOf}
+use Rattle.plan_delays.specs.Samples.{Cases}
 
 pub cases : Cases
 unfolding settingOf historyLength rowBound fieldsInRange seedsInRange settingRefusal delayRefusal smallestDelay leastDelay greatestDelay delaysAbove delaysOf

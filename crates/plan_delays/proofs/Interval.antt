@@ -8,10 +8,10 @@ use Rattle.rules.specs.declared.Limits.{Limits}
 use Rattle.rules.specs.Setting.{epochLength, historyLength, rowBound}
 use Rattle.rules.proofs.Accept.{accepted}
 use Rattle.rules.specs.Tested.{Accepted}
-use Rattle.plan.specs.Delays.{withDelay, someSeeds, delayRefusal, AcceptedDelay, InRange, Bounded}
-use Rattle.plan.specs.Plan.{smallestDelay, leastDelay, greatestDelay}
-use Rattle.plan.proofs.Numbers.{bound-met, bound-missed, bound-least, history-short, history-limit}
-use Rattle.plan.proofs.Shape.{Other, other-ranges, other-room, any-delay, accept}
+use Rattle.plan_delays.specs.Delays.{withDelay, someSeeds, delayRefusal, AcceptedDelay, InRange, Bounded}
+use Rattle.plan_delays.specs.Answer.{smallestDelay, leastDelay, greatestDelay}
+use Rattle.plan_delays.proofs.Numbers.{bound-met, bound-missed, bound-least, history-short, history-limit}
+use Rattle.plan_delays.proofs.Shape.{Other, other-ranges, other-room, any-delay, accept}
 
 -- ---- B ≤ L, from the smallest delay on
 

@@ -1,0 +1,4 @@
+pub mod Delays
+pub mod Answer
+pub mod Claims
+pub mod Samples
