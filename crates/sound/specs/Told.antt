@@ -20,15 +20,15 @@ pub record Begun (s : Setting) (seeds : List ℕ) (code : ℕ) (st : State) (o :
   pub sound : code ≡ 0 → Sound s st
 
 -- a request: the code is the reply's, the answer is the reply's where the code is 0, the state is the outcome's and passes the tests again
-pub record Told (s : Setting) (code : ℕ) (answer : Answer) (st : State) (o : Outcome) : Type 0 where
-  pub code-is : code ≡ returnCode (o .reply)
-  pub answer-is : code ≡ 0 → o .reply ≡ answered answer
-  pub state-is : st ≡ o .state
-  pub sound : Sound s st
+pub record Told (s : Setting) (code : ℕ) (answer : Answer) (left : State) (q : Outcome) : Type 0 where
+  pub code-is : code ≡ returnCode (q .reply)
+  pub answer-is : code ≡ 0 → q .reply ≡ answered answer
+  pub state-is : left ≡ q .state
+  pub sound : Sound s left
 
 -- a done: the same, with no answer
-pub record Over (s : Setting) (code : ℕ) (st : State) (o : Outcome) : Type 0 where
-  pub code-is : code ≡ returnCode (o .reply)
-  pub finished-is : code ≡ 0 → o .reply ≡ finished
-  pub state-is : st ≡ o .state
-  pub sound : Sound s st
+pub record Over (s : Setting) (code : ℕ) (after : State) (d : Outcome) : Type 0 where
+  pub code-is : code ≡ returnCode (d .reply)
+  pub finished-is : code ≡ 0 → d .reply ≡ finished
+  pub state-is : after ≡ d .state
+  pub sound : Sound s after
