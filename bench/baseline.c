@@ -1,5 +1,5 @@
 /*
- * The throttle's four calls in plain C, as the yardstick of the benchmark. It
+ * The throttle's four calls in plain C, for comparison in the benchmark. It
  * makes the same tests as the library in every call and writes the same cells,
  * for any contents of the memory. See baseline.h for the names.
  */

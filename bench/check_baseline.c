@@ -1,5 +1,5 @@
 /*
- * A log checker in plain C, the yardstick of the program check_log: reads a
+ * A log checker in plain C, to compare the program check_log with: reads a
  * log from standard input, a block of 512 bytes at a time, and prints the same
  * report. Its model is that of baseline.c. The checker owns the model's memory,
  * so setting and memory are tested once, at block 0, and not for each record.

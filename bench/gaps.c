@@ -7,7 +7,7 @@
 
 #include <stdio.h>
 
-enum { BATCH = 512, PIECES = 16, PASSES = 4, ROUNDS = 10, STEP = 50, LENGTHS = 2, CASES = 3 };
+enum { BATCH = 512, PIECES = 16, PASSES = 4, ROUNDS = 10, STEP = 50, LENGTHS = 2, CASES = 4 };
 
 static const size_t lengths[LENGTHS] = {888, 4096};
 
@@ -27,6 +27,7 @@ static const struct history cases[CASES] = {
     {"small ticks", 1000, STEP},
     {"ticks from 2^61 on", (uint64_t)1 << 61, STEP},
     {"a gap of 2^50 ticks", 1000, (uint64_t)1 << 50},
+    {"a gap of 2^60 ticks", 1000, (uint64_t)1 << 60},
 };
 
 /* Fills h places with activations and returns the tick of the last one. */

@@ -99,9 +99,7 @@ void take_shape(const struct shape *shape)
         .threads = shape->threads,
     };
     setting = throttle_words(&s, words);
-    for (uint64_t f = 0; f < 4; f++)
-        for (uint64_t i = 0; i < 16; i++)
-            seeds[16 * f + i] = (uint16_t)((37 * (i + 1) * (i + 1) + 211 * f + 89 * i * f) % 1024);
+    throttle_house_seeds(seeds);
     for (size_t b = 0; b < BUILDS; b++) {
         memset(&memories[b], 0x5a, sizeof memories[b]);
         if (builds[b].setup(STATE(&memories[b])) != 0)

@@ -106,9 +106,7 @@ static void start_model(const struct kind *kind)
         .threads = THREADS,
     };
     setting = throttle_words(&s, words);
-    for (uint64_t f = 0; f < 4; f++)
-        for (uint64_t i = 0; i < 16; i++)
-            seeds[16 * f + i] = (uint16_t)((37 * (i + 1) * (i + 1) + 211 * f + 89 * i * f) % 1024);
+    throttle_house_seeds(seeds);
     if (base_setup(BASE_GIVEN) != 0)
         fail("the setting is refused");
 }

@@ -6,6 +6,7 @@
 #   need_archive NAME [FILE]    the same of the archive libNAME.a
 #   lock_target                 waits until no other process builds, and keeps others from it until
 #   unlock_target
+# Its variables are root, target, lock_file, lock, product, proof, record, build_command, members and parts.
 # A product that is up to date is taken as it is, without the lock and without rt. It is up to date if the crates that it is made of have
 # the files that they had when its last build began, each with the size and the time that it had then. If it was built by hand with rt, it
 # is up to date if it is newer than each of these files and of the folders they are in. A build that did not end well makes nothing up to
@@ -114,7 +115,7 @@ lock_target() {
     command -v flock >/dev/null || fail "flock is not installed (it is in Debian's package util-linux)"
     { exec {lock}>>"$lock_file"; } 2>/dev/null || fail "$lock_file cannot be written"
     if ! flock --nonblock "$lock"; then
-        printf '%s: another command is building; waiting until it has ended\n' "$0" >&2
+        printf '%s: another command is building; waiting until it has ended\n' "$0" >&2 || true
         flock "$lock" || fail "$lock_file cannot be locked"
     fi
 }
@@ -130,7 +131,7 @@ build() {
     { list_files >"$record.begun"; } 2>/dev/null || fail "$record.begun cannot be written"
     # rt does not link again what it has marked as proved.
     [ -z "$proof" ] || [ -e "$product" ] || rm -f "$proof"
-    printf '%s: proving and building %s, %d crates; the first time this takes minutes\n' "$0" "$shown" ${#members[@]} >&2
+    printf '%s: proving and building %s, %d crates; the first time this takes minutes\n' "$0" "$shown" ${#members[@]} >&2 || true
     if ! (set -o pipefail && cd "$root" && "${build_command[@]}" </dev/null 2>&1 | follow "$output"); then
         tail -n 5 "$output" >&2
         fail "$shown was not proved and built; $output has the whole output"
@@ -159,7 +160,7 @@ follow() {
             shown=$proved
             show_progress "$proved"
         fi
-    done >"$1"
+    done >"$1" || return
     [ -z "$shown" ] || [ ! -t 2 ] || echo >&2
 }
 
@@ -173,5 +174,5 @@ show_progress() {
     if [ -t 2 ]; then
         before=$'\r' after=
     fi
-    printf '%s%s: %d of %d crates proved%s' "$before" "$0" "$1" ${#members[@]} "$after" >&2
+    printf '%s%s: %d of %d crates proved%s' "$before" "$0" "$1" ${#members[@]} "$after" >&2 || true
 }

@@ -1,9 +1,9 @@
 # shellcheck shell=bash
 # What the commands share: messages, options, the status that they end with. To be sourced by a bash script that has `set -eu` and defines
 #   help          a function that prints the whole usage; its first paragraph is what a wrong call is shown
-#   most          the most operands that the command takes, if there is a limit
-#   name          the command's name, if it has a version to print
-#   wrong_call    the status of a wrong call, 2 if it is not set
+#   most          the most operands that the command takes, or nothing
+#   name          the command's name if it has a version to print, or nothing
+#   wrong_call    the status of a wrong call
 #   option        a function that takes an option of the command's own, or fails; if the command has any
 
 # Whatever ends a command ends it with this status, which stays 3 (it could not be done) until the command has its answer.
@@ -12,7 +12,7 @@ trap 'exit "$status"' EXIT
 
 # A line on standard error, under the name that the command was called by.
 say() {
-    printf '%s: %s\n' "$0" "$*" >&2
+    printf '%s: %s\n' "$0" "$*" >&2 || true
 }
 
 fail() {
@@ -34,8 +34,8 @@ answer() {
 
 # Ends a wrong call, of which it has been said what is wrong.
 end_wrong_call() {
-    help | sed '/^$/,$d' >&2
-    status=${wrong_call:-2}
+    help | sed '/^$/,$d' >&2 || true
+    status=$wrong_call
     exit "$status"
 }
 
@@ -63,7 +63,7 @@ read_options() {
                 ;;
             -h | --help) answer "$(help)" ;;
             --version)
-                [ -n "${name:-}" ] || usage_error "unknown option $1"
+                [ -n "$name" ] || usage_error "unknown option $1"
                 answer "$name $(version)"
                 ;;
             -?*) [ "$(type -t option)" = function ] && option "$1" || usage_error "unknown option $1" ;;

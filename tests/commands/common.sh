@@ -27,9 +27,14 @@ finish() {
 
 # Makes the copy. Libraries are linked and not copied, as none of them is proved again.
 copy_tree() {
+    # How many crates the programs and the archive are made of.
     need_program check_log
+    crates=${#members[@]}
+    export crates
     need_program plan_settings
+    planner_crates=${#members[@]}
     need_archive throttle
+    archive_crates=${#members[@]}
     work=$(mktemp -d "$source_tree/target/commands.XXXXXX")
     trap 'rm -rf "$work"' EXIT
     tree=$work/tree
@@ -47,7 +52,7 @@ copy_tree() {
 }
 
 # Puts an rt in front of the toolchain's, which notes each call in the file `calls` and then does as the variable RT says, which is a
-# piece of shell: `keep` prints the lines of 24 crates whose proof is kept, `real` calls the toolchain.
+# piece of shell: `keep` prints the lines of the checker's crates, whose proof is kept, `real` calls the toolchain.
 plant_rt() {
     calls=$work/calls
     export calls real_rt
@@ -57,7 +62,7 @@ plant_rt() {
 #!/usr/bin/env bash
 set -eu
 echo "$*" >>"$calls"
-keep() { for crate in {1..24}; do echo "rt: crate_$crate proved (unchanged since it was last proved)"; done; }
+keep() { for ((i = 1; i <= crates; i++)); do echo "rt: crate_$i proved (unchanged since it was last proved)"; done; }
 real() { "$real_rt" "$@"; }
 eval "${RT:-keep}"
 END

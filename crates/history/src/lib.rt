@@ -1,7 +1,7 @@
 // The history buffer: a ring of h places, lent as two slices. `ticks` holds stored ticks, that is the tick plus one, or 0
 // for none; `rows` holds row words. The next activation is written at place `next`, so the newest one lies before it.
 ghost use mathlib.Core.Path.{_≡_};
-ghost use mathlib.Core.Bool.{true, false, _&&_, cond};
+ghost use mathlib.Core.Bool.{true, _&&_, cond};
 ghost use Prim.Native.Nat.{_+_, _-_, _≤_, _<_, _^_};
 ghost use lib.Dec.{ltb, eqb};
 ghost use lib.ListN.{length, getD, set};

@@ -1,14 +1,13 @@
 -- A head stored in 22 words and read back is the same head, if it has sixteen bank cells and four rank cells; every call keeps these.
-use mathlib.Core.Path.{_≡_, refl, sym, _∙_}
+use mathlib.Core.Path.{_≡_, refl}
 use mathlib.Core.List.{List}
-use Prim.Native.Nat.{ℕ, zero, suc}
-use native.Mathlib.Omega.{arith}
+use Prim.Native.Nat.{ℕ}
 use lib.ListN.{length, length-set}
 use Rattle.rules.specs.declared.Setting.{Setting}
 use Rattle.rules.specs.declared.Head.{Head}
 use Rattle.rules.specs.declared.Answer.{Answer}
 use Rattle.rules.specs.declared.Answer.the-variants.{Opened, Wait, Quota}
-use Rattle.rules.specs.State.{State, cells, headOf, headWords, freshHead, fresh}
+use Rattle.rules.specs.State.{State, headOf, headWords, freshHead, fresh}
 use Rattle.rules.specs.Clock.{movedHead, turned}
 use Rattle.rules.specs.Hash.{places}
 use Rattle.rules.specs.Policy.{Policy}

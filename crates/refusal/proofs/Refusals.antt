@@ -1,6 +1,6 @@
 -- The refusals of a call, test by test.
 use Prim.Native.Nat.{ℕ, suc, _+_, _≤_, _<_}
-use mathlib.Core.Path.{_≡_, refl, sym, ap, subst}
+use mathlib.Core.Path.{_≡_, refl, sym, ap, _∙_, subst}
 use mathlib.Core.Logic.{_≢_}
 use mathlib.Core.List.{List}
 use mathlib.Core.Bool.{Bool, true, false, not, _&&_, _||_}
@@ -109,10 +109,13 @@ module _ (m : Limits) (s : Setting) (seeds : List ℕ) (st : State) where
   pub call-test : (tick bank thread : ℕ)
       → callRefusal m s seeds st tick bank thread
       ≡ callTest m s seeds (st .head) (length (st .counters)) (st .ticks) (length (st .rows)) (length (st .threads)) tick bank thread
-  unfolding callRefusal callTest tooShort setupTest shortTest memoryOk memoryTest placeRefusal
+  unfolding callRefusal callTest lentTest tooShort setupTest shortTest memoryOk memoryTest placeRefusal
   call-test tick bank thread =
-      refuse-parts (settingRefusal m s seeds) (shortTest s (length (st .counters)) (length (st .ticks)) (length (st .rows)) (length (st .threads))) shortBuffer
-      (refuse (not (memoryTest s (st .head) (st .ticks))) badMemory (placeRefusal s (st .head .last) tick bank thread)) (λ z. omega arith)
+      let short = shortTest s (length (st .counters)) (length (st .ticks)) (length (st .rows)) (length (st .threads)) in
+      let bad = not (memoryTest s (st .head) (st .ticks)) in
+      let place = placeRefusal s (st .head .last) tick bank thread in
+      refuse-parts (settingRefusal m s seeds) short shortBuffer (refuse bad badMemory place) (λ z. omega arith)
+      ∙ refuse-parts (orElse (settingRefusal m s seeds) (refuse short shortBuffer none)) bad badMemory place (λ z. omega arith)
 
   pub done-test : (tick bank thread : ℕ)
       → doneRefusal m s seeds st tick bank thread
@@ -139,15 +142,6 @@ module _ (m : Limits) (s : Setting) (seeds : List ℕ) (h : Head) (counters : �
       → lentTest m s seeds h counters ticks rows threads true ≡ refuse (not (memoryTest s h ticks)) badMemory none
   unfolding lentTest
   lent-memory e = orElse-second (setupTest m s seeds counters (length ticks) rows threads) _ e
-
-  -- a call has 8 and 9 after them
-  pub call-parts : (tick bank thread : ℕ)
-      → callTest m s seeds h counters ticks rows threads tick bank thread
-      ≡ orElse (lentTest m s seeds h counters ticks rows threads true) (placeRefusal s (h .last) tick bank thread)
-  unfolding callTest lentTest
-  call-parts tick bank thread =
-      refuse-parts (setupTest m s seeds counters (length ticks) rows threads) (not (memoryTest s h ticks)) badMemory
-      (placeRefusal s (h .last) tick bank thread) (λ z. omega arith)
 
 -- ---- what the tests that are passed tell
 
@@ -184,11 +178,11 @@ pub record Tested (m : Limits) (s : Setting) (seeds : List ℕ) (threads bank th
 
 pub tested-call : (m : Limits) (s : Setting) (seeds : List ℕ) (h : Head) (counters : ℕ) (ticks : List ℕ) (rows threads tick bank thread : ℕ)
     → refusalNumber (callTest m s seeds h counters ticks rows threads tick bank thread) ≡ 0 → Tested m s seeds threads bank thread
-unfolding callTest placeRefusal
+unfolding callTest lentTest placeRefusal
 tested-call m s seeds h counters ticks rows threads tick bank thread e =
-    let r6 = orElse-none (setupTest m s seeds counters (length ticks) rows threads) _
+    let r7 = orElse-none (lentTest m s seeds h counters ticks rows threads true) _
     (number-none (callTest m s seeds h counters ticks rows threads tick bank thread) e) in
-    let r7 = refuse-none (not (memoryTest s h ticks)) badMemory _ (omega arith) (r6 .1) in
+    let r6 = orElse-none (setupTest m s seeds counters (length ticks) rows threads) _ (r7 .0) in
     let r8 = refuse-none (leb (s .banks) bank || leb (s .threads) thread) outsideSetting _ (omega arith) (r7 .1) in
     let n8 = not-or (leb (s .banks) bank) (leb (s .threads) thread) (r8 .0) in
     let k = tested-setup m s seeds counters (length ticks) rows threads (ap refusalNumber (r6 .0)) in

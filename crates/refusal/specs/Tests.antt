@@ -1,7 +1,7 @@
--- The tests of a call's refusals, from the numbers and the lists that each looks at; no test looks into a counter.
+-- The tests of a call's refusals, from the numbers and the lists that each looks at; no test looks into a filter counter.
 use Prim.Native.Nat.{ℕ, _+_, _^_}
 use mathlib.Core.List.{List}
-use mathlib.Core.Bool.{Bool, not, _&&_, _||_}
+use mathlib.Core.Bool.{Bool, true, not, _&&_, _||_}
 use lib.Dec.{leb, ltb, eqb}
 use lib.ListN.{length, getD}
 use Rattle.rules.specs.declared.Setting.{Setting}
@@ -49,8 +49,7 @@ lentTest m s seeds h counters ticks rows threads keeps =
 -- refusals 1 to 9: of counters, rows and thread counters the lengths are enough
 unfoldable pub callTest : Limits → Setting → List ℕ → Head → ℕ → List ℕ → ℕ → ℕ → ℕ → ℕ → ℕ → Refusal
 callTest m s seeds h counters ticks rows threads tick bank thread =
-    orElse (setupTest m s seeds counters (length ticks) rows threads)
-    (refuse (not (memoryTest s h ticks)) badMemory (placeRefusal s (h .last) tick bank thread))
+    orElse (lentTest m s seeds h counters ticks rows threads true) (placeRefusal s (h .last) tick bank thread)
 
 -- refusals 1 to 10, with the thread counters
 unfoldable pub doneTest : Limits → Setting → List ℕ → Head → ℕ → List ℕ → ℕ → List ℕ → ℕ → ℕ → ℕ → Refusal

@@ -1,4 +1,4 @@
-// Refusals 1 to 10 of the calls, in their order, for any limits of the setting. No function here knows the width of a counter.
+// Refusals 1 to 10 of the calls, in their order, for any limits of the setting. No function here knows the width of a filter counter.
 use memory::memory_ok;
 use rules::Limits;
 use rules::Setting;

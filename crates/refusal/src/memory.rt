@@ -10,7 +10,7 @@ ghost use Rattle.refusal.specs.Tests.{wordsPast, memoryTest};
 
 // The head's twenty stored ticks and what each leaves of the last tick plus one, or-ed: no branch, so that the compiler uses vectors. While the top
 // bit is clear in all of them, no difference has wrapped, so no stored tick is after the last tick.
-fn differences(head: &[u64; 22]) -> u64
+fn distances(head: &[u64; 22]) -> u64
     ensures { λ r. ⌜ (r < 2 ^ 63 → wordsPast (now (head .entry)) 2 20 ≡ true) ⌝ }
 {
     let limit = std::num::wrapping_add_u64(head[0], 1);
@@ -40,13 +40,13 @@ fn past(head: &[u64; 22], i: usize, n: usize) -> bool
     true
 }
 
-// Whether no stored tick of the setting's banks and of the rank is after the last tick. The quick pass accepts where all twenty, those of banks outside
-// the setting included, are below 2^63 and not after the last tick; else the exact loops decide.
+// Whether no stored tick of the setting's banks and of the rank is after the last tick. The quick pass accepts only where none of the twenty, those of
+// banks outside the setting included, is after the last tick, and it does so wherever the last tick is below 2^63 - 1 too. Else the exact loops decide.
 fn head_past(head: &[u64; 22], banks: u64) -> bool
     requires { ⌜ banks ≤ 16 ⌝ }
     ensures { λ r. ⌜ r ≡ (wordsPast (now (head .entry)) 2 banks && wordsPast (now (head .entry)) 18 4) ⌝ }
 {
-    if differences(head) < 9223372036854775808 {
+    if distances(head) < 9223372036854775808 {
         return true;
     }
     if !past(head, 2, banks as usize) {

@@ -19,7 +19,7 @@ or-below a b = omega (arith, or-add-and a b, and-le-r a b)
 pub or-parts : (a b n : ℕ) → bitOr a b < n → (a < n) × (b < n)
 or-parts a b n h = (lt-of-le-of-lt (or-below a b) h, lt-of-le-of-lt (or-below b a) (rw or-comm h))
 
--- k differences below 2^58, from the cell at i on: none wrapped, or the cell reached lies a whole word below their sum
+-- k differences below 2^58, from the cell at i on: none wrapped, or the cell reached lies a whole word below the first cell plus k times 2^58
 abbrev pub Near : List ℕ → ℕ → ℕ → Type 0
 Near ticks i k = (T (neverFalls ticks i k) × (getD ticks (i + k) 0 ≤ getD ticks i 0 + k * 2 ^ 58)) ⊎ (getD ticks (i + k) 0 + 2 ^ 64 < getD ticks i 0 + k * 2 ^ 58)
 

@@ -1,6 +1,6 @@
 // A straight run of stored ticks, from the oldest up: whether none is followed by a smaller one. The history ring is two such runs.
 ghost use mathlib.Core.Path.{_≡_};
-ghost use Prim.Native.Nat.{_+_, _-_, _≤_, _<_, _^_};
+ghost use Prim.Native.Nat.{_+_, _≤_, _<_, _^_};
 ghost use lib.Dec.{T};
 ghost use lib.ListN.{length, getD};
 ghost use Rattle.runs.specs.Runs.{neverFalls};
@@ -51,7 +51,7 @@ fn block_never_falls(ticks: &[u64], i: usize, m: usize) -> bool
     scan(ticks, i, m)
 }
 
-// The same for a run of any length, by blocks. The compiler lays out the 64 cells of a whole block in a row.
+// The same for a run of any length, by blocks. With the constant 64 the compiler can unroll the loop of a whole block.
 pub fn never_falls(ticks: &[u64], i: usize, n: usize) -> bool
     requires { ⌜ i + n < length (now ticks) ⌝ }
     ensures { λ r. ⌜ r ≡ neverFalls (now (ticks .entry)) i n ⌝ }

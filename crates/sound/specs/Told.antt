@@ -1,4 +1,4 @@
--- What the calls for Rattle callers tell of the rules' outcome.
+-- What the calls for Rattle callers tell of the rules' outcome. Each record has names of its own, so that a must-fail edit can name its lines.
 use Prim.Native.Nat.{ℕ}
 use mathlib.Core.Path.{_≡_}
 use mathlib.Core.List.{List}

@@ -79,12 +79,12 @@ pub fn request(
             head: h,
         };
     }
-    let stored = h.bank;
+    let banks = h.bank;
     let d = calls::request(
         s,
         seeds,
         h,
-        stored[bank as usize],
+        banks[bank as usize],
         counters,
         ticks,
         rows,

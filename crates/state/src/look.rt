@@ -52,7 +52,7 @@ fn delay(
 }
 
 // Reads the view of a row with these estimates in the active and in the other filter; e is the epoch of the last tick, stored the bank's cell of the
-// head. It is handed over because an array that is indexed has to lie in memory: a caller that has the head's words reads it there.
+// head. The cell is handed over because an array that is indexed has to lie in memory: a caller that has the head's words reads it there.
 pub fn look(
     s: Setting,
     h: Head,

@@ -69,7 +69,7 @@ pub fn store_head(h: Head, words: &mut [u64; 22])
     ];
 }
 
-// Stores a head of which the clock alone has moved: the other words hold it already. The compiler leaves out a word that is stored where it was read.
+// Stores a head of which the clock alone has moved: the other words hold it already and are stored as they were read, which the compiler can leave out.
 pub fn store_clock(h: Head, words: &mut [u64; 22])
     requires { ⌜ h ≡ movedHead (headOf (now words)) (h .last) ⌝ }
     ensures { λ _. ⌜ now (words .exit) ≡ headWords h ⌝ }

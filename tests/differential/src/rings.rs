@@ -27,7 +27,7 @@ const GAPS: [u64; 12] = [
     1 << 63,
     u64::MAX,
 ];
-/// Stored ticks of which a history has its oldest or its newest.
+/// Stored ticks that are the oldest or the newest of a history.
 const LARGE: [u64; 8] = [
     0,
     1 << 20,

@@ -1,5 +1,5 @@
 -- `call_refusal` gives the refusals of what is lent, then 8 and 9.
-use mathlib.Core.Path.{_≡_, sym, ap, _∙_}
+use mathlib.Core.Path.{_≡_, refl, sym, ap, _∙_}
 use mathlib.Core.Bool.{true}
 use Rattle.rules.specs.declared.Setting.{Setting}
 use Rattle.rules.specs.declared.Head.{Head}
@@ -7,7 +7,7 @@ use Rattle.rules.specs.Answers.{Refusal, refusalNumber, orElse}
 use Rattle.rules.specs.Setting.{settingOf}
 use Rattle.rules.specs.State.{headOf}
 use Rattle.refusal.specs.Tests.{placeRefusal, lentTest, callTest}
-use Rattle.refusal.proofs.Refusals.{orElse-first, orElse-second, call-parts}
+use Rattle.refusal.proofs.Refusals.{orElse-first, orElse-second}
 use borrow.Author.Needs.{needs}
 use Rattle.refusal.proofs.call_refusal.Statement.{statement}
 use Rattle.refusal.proofs.call_refusal.Tie as tie
@@ -28,15 +28,17 @@ rest c = let a = c .args in placeRefusal (s c) (h c .last) (a .tick) (a .bank) (
 
 parts : (c : tie.Start) → let a = c .args in
     callTest (a .m) (s c) (a .seeds .now) (h c) (a .counters) (a .ticks .now) (a .rows) (a .threads) (a .tick) (a .bank) (a .thread) ≡ orElse (front c) (rest c)
-parts c = let a = c .args in call-parts (a .m) (s c) (a .seeds .now) (h c) (a .counters) (a .ticks .now) (a .rows) (a .threads) (a .tick) (a .bank) (a .thread)
+unfolding callTest
+parts c = refl
 
 lent-refusal-requires : tie.Need-lent-refusal-requires
 lent-refusal-requires c κs = search needs
 
 returns : tie.Need-returns
 returns c =
-    c .before .lent-refusal .ensures
-    ∙ ap refusalNumber (sym (parts (c .before .before .before .before) ∙ orElse-first (front (c .before .before .before .before)) (rest (c .before .before .before .before)) (λ z. c .if1 .taken (c .before .lent-refusal .ensures ∙ z))))
+    let start = (c .before .before .before .before) in
+    let e = c .before .lent-refusal .ensures in
+    e ∙ ap refusalNumber (sym (parts start ∙ orElse-first (front start) (rest start) (λ z. c .if1 .taken (e ∙ z))))
 
 load-requires : tie.Need-load-requires
 load-requires c κs = search needs
@@ -50,9 +52,9 @@ place-refusal-requires c κs = search needs
 returns-2 : tie.Need-returns-2
 unfolding headOf
 returns-2 c =
+    let start = (c .before .before .before .before .before .before .before) in
     let e = c .before .before .load .ensures in
-    rw e at (c .place-refusal .ensures)
-    ∙ ap refusalNumber (sym (parts (c .before .before .before .before .before .before .before) ∙ orElse-second (front (c .before .before .before .before .before .before .before)) (rest (c .before .before .before .before .before .before .before)) (sym (c .before .before .before .before .lent-refusal .ensures) ∙ c .before .before .before .if1 .left)))
+    rw e at (c .place-refusal .ensures) ∙ ap refusalNumber (sym (parts start ∙ orElse-second (front start) (rest start) (sym (c .before .before .before .before .lent-refusal .ensures) ∙ c .before .before .before .if1 .left)))
 
 pub call-refusal-spec : {M : Type 1} → statement M
 call-refusal-spec =

@@ -23,10 +23,15 @@ front c = let a = c .args in callTest (a .m) (s c) (a .seeds .now) (headOf (a .h
 abbrev last : tie.Start → Refusal
 last c = let a = c .args in refuse (eqb (getD (a .threads .now) (threadCell (s c) (a .bank) (a .thread) 2) 0) 0) noneInFlight none
 
-ok : (c : tie.Else1) → let a = c .before .before .before .before .before .args in Tested (a .m) (s (c .before .before .before .before .before)) (a .seeds .now) (length (a .threads .now)) (a .bank) (a .thread)
+-- the start, from where refusals 1 to 9 are passed
+abbrev begun : tie.Else1 → tie.Start
+begun c = (c .before .before .before .before .before)
+
+ok : (c : tie.Else1) → let start = begun c in let a = start .args in Tested (a .m) (s start) (a .seeds .now) (length (a .threads .now)) (a .bank) (a .thread)
 ok c =
-    let a = c .before .before .before .before .before .args in
-    tested-call (a .m) (s (c .before .before .before .before .before)) (a .seeds .now) (headOf (a .head .now)) (a .counters) (a .ticks .now) (a .rows) (length (a .threads .now)) (a .tick) (a .bank) (a .thread)
+    let start = begun c in
+    let a = start .args in
+    tested-call (a .m) (s start) (a .seeds .now) (headOf (a .head .now)) (a .counters) (a .ticks .now) (a .rows) (length (a .threads .now)) (a .tick) (a .bank) (a .thread)
     (sym (c .before .call-refusal .ensures) ∙ c .if1 .left)
 
 call-refusal-requires : tie.Need-call-refusal-requires
@@ -34,7 +39,10 @@ call-refusal-requires c κs = search needs
 
 returns : tie.Need-returns
 unfolding doneTest
-returns c = c .before .call-refusal .ensures ∙ ap refusalNumber (sym (orElse-first (front (c .before .before .before .before .before)) (last (c .before .before .before .before .before)) (λ z. c .if1 .taken (c .before .call-refusal .ensures ∙ z))))
+returns c =
+    let start = (c .before .before .before .before .before) in
+    let e = c .before .call-refusal .ensures in
+    e ∙ ap refusalNumber (sym (orElse-first (front start) (last start) (λ z. c .if1 .taken (e ∙ z))))
 
 load-requires : tie.Need-load-requires
 load-requires c κs = search needs
@@ -48,9 +56,11 @@ flying-refusal-requires c κs =
 returns-2 : tie.Need-returns-2
 unfolding doneTest
 returns-2 c =
+    let here = (c .before .before) in
+    let start = begun here in
     let e = c .before .load .ensures in
     rw e at (c .flying-refusal .ensures)
-    ∙ ap refusalNumber (sym (orElse-second (front (c .before .before .before .before .before .before .before)) (last (c .before .before .before .before .before .before .before)) (sym (c .before .before .before .call-refusal .ensures) ∙ c .before .before .if1 .left)))
+    ∙ ap refusalNumber (sym (orElse-second (front start) (last start) (sym (c .before .before .before .call-refusal .ensures) ∙ here .if1 .left)))
 
 pub done-refusal-spec : {M : Type 1} → statement M
 done-refusal-spec =

@@ -21,32 +21,49 @@ s c = settingOf (c .args .setting .now)
 abbrev h : tie.Start → Head
 h c = headOf (c .args .head .now)
 
--- refusals 1 to 6
+-- refusals 1 to 6, and with 7
 abbrev front : tie.Start → Refusal
 front c = let a = c .args in setupTest (a .m) (s c) (a .seeds .now) (a .counters) (length (a .ticks .now)) (a .rows) (a .threads)
 
-code-is : (c : tie.After-setup-refusal) → c .setup-refusal .result ≡ refusalNumber (front (c .before .before .before .before))
+abbrev all : tie.Start → Bool → Refusal
+all c keeps = let a = c .args in lentTest (a .m) (s c) (a .seeds .now) (h c) (a .counters) (a .ticks .now) (a .rows) (a .threads) keeps
+
+-- the start, from where the code of 1 to 6 is known and from where it is 0
+abbrev asked : tie.After-setup-refusal → tie.Start
+asked c = (c .before .before .before .before)
+
+abbrev begun : tie.Else1 → tie.Start
+begun c = asked (c .before)
+
+abbrev passed : tie.After-memory-ok → tie.Else1
+passed c = (c .before .before .before)
+
+code-is : (c : tie.After-setup-refusal) → c .setup-refusal .result ≡ refusalNumber (front (asked c))
 code-is c =
     let e = c .before .load .ensures in
     rw e at (c .setup-refusal .ensures)
 
+free : (c : tie.Else1) → refusalNumber (front (begun c)) ≡ 0
+free c = sym (code-is (c .before)) ∙ c .if1 .left
+
 -- the setting is accepted and the history is long enough
-ok : (c : tie.Else1) → let a = c .before .before .before .before .before .args in Lengths (a .m) (s (c .before .before .before .before .before)) (a .seeds .now) (length (a .ticks .now)) (a .threads)
+ok : (c : tie.Else1) → let start = begun c in let a = start .args in Lengths (a .m) (s start) (a .seeds .now) (length (a .ticks .now)) (a .threads)
 ok c =
-    let a = c .before .before .before .before .before .args in
-    tested-setup (a .m) (s (c .before .before .before .before .before)) (a .seeds .now) (a .counters) (length (a .ticks .now)) (a .rows) (a .threads) (sym (code-is (c .before)) ∙ c .if1 .left)
+    let start = begun c in
+    let a = start .args in
+    tested-setup (a .m) (s start) (a .seeds .now) (a .counters) (length (a .ticks .now)) (a .rows) (a .threads) (free c)
 
 -- and then 7 decides
-by-memory : (c : tie.After-memory-ok) → let a = c .before .before .before .before .before .before .before .before .args in (b : Bool) → c .memory-ok .result ≡ b
-    → refusalNumber (refuse (not b) badMemory none)
-    ≡ refusalNumber (lentTest (a .m) (s (c .before .before .before .before .before .before .before .before)) (a .seeds .now) (h (c .before .before .before .before .before .before .before .before)) (a .counters) (a .ticks .now) (a .rows) (a .threads) (a .keeps))
+by-memory : (c : tie.After-memory-ok) (b : Bool) → c .memory-ok .result ≡ b
+    → let start = begun (passed c) in refusalNumber (refuse (not b) badMemory none) ≡ refusalNumber (all start (start .args .keeps))
 by-memory c b e =
-    let a = c .before .before .before .before .before .before .before .before .args in
+    let start = begun (passed c) in
+    let a = start .args in
     let l = c .before .before .before .before .before .load .ensures in
-    let test : memoryTest (s (c .before .before .before .before .before .before .before .before)) (h (c .before .before .before .before .before .before .before .before)) (a .ticks .now) ≡ b = rw l at (sym (c .memory-ok .ensures)) ∙ e in
+    let test : memoryTest (s start) (h start) (a .ticks .now) ≡ b = rw l at (sym (c .memory-ok .ensures)) ∙ e in
     sym
-    (ap (λ k. refusalNumber (lentTest (a .m) (s (c .before .before .before .before .before .before .before .before)) (a .seeds .now) (h (c .before .before .before .before .before .before .before .before)) (a .counters) (a .ticks .now) (a .rows) (a .threads) k)) (not-false _ (c .before .before .if2 .left))
-    ∙ ap refusalNumber (lent-memory (a .m) (s (c .before .before .before .before .before .before .before .before)) (a .seeds .now) (h (c .before .before .before .before .before .before .before .before)) (a .counters) (a .ticks .now) (a .rows) (a .threads) (sym (code-is (c .before .before .before .before)) ∙ c .before .before .before .if1 .left))
+    (ap (λ k. refusalNumber (all start k)) (not-false _ (c .before .before .if2 .left))
+    ∙ ap refusalNumber (lent-memory (a .m) (s start) (a .seeds .now) (h start) (a .counters) (a .ticks .now) (a .rows) (a .threads) (free (passed c)))
     ∙ ap (λ x. refusalNumber (refuse (not x) badMemory none)) test)
 
 load-requires : tie.Need-load-requires
@@ -57,17 +74,20 @@ setup-refusal-requires c κs = search needs
 
 returns : tie.Need-returns
 returns c =
-    let a = c .before .before .before .before .before .args in
-    code-is (c .before)
-    ∙ ap refusalNumber (sym (lent-first (a .m) (s (c .before .before .before .before .before)) (a .seeds .now) (h (c .before .before .before .before .before)) (a .counters) (a .ticks .now) (a .rows) (a .threads) (a .keeps) (λ z. c .if1 .taken (code-is (c .before) ∙ z))))
+    let at = (c .before) in
+    let start = asked at in
+    let a = start .args in
+    code-is at
+    ∙ ap refusalNumber (sym (lent-first (a .m) (s start) (a .seeds .now) (h start) (a .counters) (a .ticks .now) (a .rows) (a .threads) (a .keeps) (λ z. c .if1 .taken (code-is at ∙ z))))
 
 returns-2 : tie.Need-returns-2
 returns-2 c =
-    let a = c .before .before .before .before .before .before .args in
+    let here = (c .before) in
+    let start = begun here in
+    let a = start .args in
     sym
-    (ap (λ k. refusalNumber (lentTest (a .m) (s (c .before .before .before .before .before .before)) (a .seeds .now) (h (c .before .before .before .before .before .before)) (a .counters) (a .ticks .now) (a .rows) (a .threads) k)) (not-true _ (c .if2 .taken))
-    ∙ ap refusalNumber (lent-setup (a .m) (s (c .before .before .before .before .before .before)) (a .seeds .now) (h (c .before .before .before .before .before .before)) (a .counters) (a .ticks .now) (a .rows) (a .threads))
-    ∙ sym (code-is (c .before .before)) ∙ c .before .if1 .left)
+    (ap (λ k. refusalNumber (all start k)) (not-true _ (c .if2 .taken))
+    ∙ ap refusalNumber (lent-setup (a .m) (s start) (a .seeds .now) (h start) (a .counters) (a .ticks .now) (a .rows) (a .threads)) ∙ free here)
 
 history-length-requires : tie.Need-history-length-requires
 history-length-requires c κs =

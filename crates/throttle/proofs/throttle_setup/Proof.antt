@@ -24,18 +24,26 @@ entry c = let a = c .args in found (a .head .now) (a .counters .now) (a .ticks .
 abbrev s : tie.Start → Setting
 s c = settingOf (c .args .setting .now)
 
+-- the start, from where the code is known and from where it is 0
+abbrev asked : tie.After-lent-refusal → tie.Start
+asked c = (c .before .before .before .before .before .before .before .before .before)
+
+abbrev begun : tie.Else1 → tie.Start
+begun c = asked (c .before)
+
 -- the code is the number of the rules' refusal
-code-is : (c : tie.After-lent-refusal) → c .lent-refusal .result ≡ refusalNumber (setupRefusal limits01 (s (c .before .before .before .before .before .before .before .before .before)) (c .before .before .before .before .before .before .before .before .before .args .seeds .now) (entry (c .before .before .before .before .before .before .before .before .before)))
+code-is : (c : tie.After-lent-refusal) → let start = asked c in c .lent-refusal .result ≡ refusalNumber (setupRefusal limits01 (s start) (start .args .seeds .now) (entry start))
 code-is c =
-    let start = (c .before .before .before .before .before .before .before .before .before) in
+    let start = asked c in
     let a = start .args in
     setup-code (s start) (a .seeds .now) (a .head .now) (a .counters .now) (a .ticks .now) (a .rows .now) (a .threads .now) _ _
     (c .lent-refusal .ensures) (c .before .before .before .narrow-limits .ensures)
 
-ok : (c : tie.Else1) → SetUp limits01 (s (c .before .before .before .before .before .before .before .before .before .before)) (c .before .before .before .before .before .before .before .before .before .before .args .seeds .now) (entry (c .before .before .before .before .before .before .before .before .before .before))
-ok c =
-    let start = (c .before .before .before .before .before .before .before .before .before .before) in
-    set-up limits01 (s start) (start .args .seeds .now) (entry start) (number-none _ (sym (code-is (c .before)) ∙ c .if1 .left))
+free : (c : tie.Else1) → let start = begun c in refusalNumber (setupRefusal limits01 (s start) (start .args .seeds .now) (entry start)) ≡ 0
+free c = sym (code-is (c .before)) ∙ c .if1 .left
+
+ok : (c : tie.Else1) → let start = begun c in SetUp limits01 (s start) (start .args .seeds .now) (entry start)
+ok c = let start = begun c in set-up limits01 (s start) (start .args .seeds .now) (entry start) (number-none _ (free c))
 
 narrow-limits-requires : tie.Need-narrow-limits-requires
 narrow-limits-requires c κs = search needs
@@ -49,10 +57,11 @@ same-length c = search needs
 returns : tie.Need-returns
 unfolding setup
 returns c =
-    let start = (c .before .before .before .before .before .before .before .before .before .before) in
+    let at = (c .before) in
+    let start = asked at in
     let a = start .args in
-    left-refused (setupRefusal limits01 (s start) (a .seeds .now) (entry start)) (outcome finished (fresh (s start) (entry start))) (c .before .lent-refusal .result)
-    [] (a .head .now) (a .counters .now) (a .ticks .now) (a .rows .now) (a .threads .now) (code-is (c .before)) (c .if1 .taken)
+    left-refused (setupRefusal limits01 (s start) (a .seeds .now) (entry start)) (outcome finished (fresh (s start) (entry start))) (at .lent-refusal .result)
+    [] (a .head .now) (a .counters .now) (a .ticks .now) (a .rows .now) (a .threads .now) (code-is at) (c .if1 .taken)
 
 load-requires : tie.Need-load-requires
 load-requires c κs = search needs
@@ -80,13 +89,13 @@ same-length-5 c = search needs
 returns-2 : tie.Need-returns-2
 unfolding fresh
 returns-2 c =
-    let start = (c .before .before .before .before .before .before .before .before .before .before .before .before .before .before .before .before .before .before .before .before .before .before .before .before .before .before) in
+    let passed = (c .before .before .before .before .before .before .before .before .before .before .before .before .before .before .before .before) in
+    let start = begun passed in
     let a = start .args in
     let f = c .before .before .before .before .before .before .before .before .before .before .fresh in
     let z = state (f .result) (f .last .1 .0) (f .last .1 .1 .0) (f .last .1 .1 .1 .0) (f .last .1 .1 .1 .1 .0) in
     rw (c .store-head .ensures)
-    (left-setup (s start) (a .seeds .now) (a .head .now) (a .counters .now) (a .ticks .now) (a .rows .now) (a .threads .now)
-    (sym (code-is (c .before .before .before .before .before .before .before .before .before .before .before .before .before .before .before .before .before)) ∙ c .before .before .before .before .before .before .before .before .before .before .before .before .before .before .before .before .if1 .left) z (rw (c .before .before .before .before .before .before .before .before .before .before .before .before .before .before .before .load .ensures) at (f .ensures)))
+    (left-setup (s start) (a .seeds .now) (a .head .now) (a .counters .now) (a .ticks .now) (a .rows .now) (a .threads .now) (free passed) z (rw (c .before .before .before .before .before .before .before .before .before .before .before .before .before .before .before .load .ensures) at (f .ensures)))
 
 pub throttle-setup-spec : {M : Type 1} → statement M
 throttle-setup-spec =

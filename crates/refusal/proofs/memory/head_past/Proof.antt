@@ -9,13 +9,13 @@ use borrow.Author.Needs.{needs}
 use Rattle.refusal.proofs.memory.head_past.Statement.{statement}
 use Rattle.refusal.proofs.memory.head_past.Tie as tie
 
-differences-requires : tie.Need-differences-requires
-differences-requires c κs = search needs
+distances-requires : tie.Need-distances-requires
+distances-requires c κs = search needs
 
 returns : tie.Need-returns
 returns c =
     let a = c .before .before .args in
-    let all = c .before .differences .ensures (c .if1 .taken) in
+    let all = c .before .distances .ensures (c .if1 .taken) in
     sym (ap₂ (λ x y. x && y) (past-part (a .head .now) 2 20 0 (a .banks) all (omega arith)) (past-part (a .head .now) 2 20 16 4 all (omega arith)))
 
 past-requires : tie.Need-past-requires
@@ -38,7 +38,7 @@ pub head-past-spec : {M : Type 1} → statement M
 head-past-spec =
     tie.close
     (tie.spec
-    differences-requires
+    distances-requires
     returns
     past-requires
     returns-2

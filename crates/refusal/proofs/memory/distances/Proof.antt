@@ -1,4 +1,4 @@
--- `differences` meets its contract. The invariant: while the top bit of the or is clear, the words passed hold no later tick.
+-- `distances` meets its contract. The invariant: while the top bit of the or is clear, the words passed hold no later tick.
 use Prim.Native.Nat.{_+_, _-_, _%_, _^_, _≤_, _<_}
 use mathlib.Core.Path.{_≡_}
 use mathlib.Core.Bool.{true}
@@ -7,8 +7,8 @@ use lib.ListN.{getD}
 use Rattle.refusal.specs.Tests.{wordsPast}
 use Rattle.refusal.proofs.Heads.{past-none, quick-more}
 use borrow.Author.Needs.{needs}
-use Rattle.refusal.proofs.memory.differences.Statement.{statement}
-use Rattle.refusal.proofs.memory.differences.Tie as tie
+use Rattle.refusal.proofs.memory.distances.Statement.{statement}
+use Rattle.refusal.proofs.memory.distances.Tie as tie
 
 abbrev Inv-loop : tie.InvT-loop
 Inv-loop head limit all₀ k₀ all k = (k ≤ 20) × (limit ≡ (getD head 0 0 + 1) % 2 ^ 64) × (all < 2 ^ 63 → wordsPast head 2 k ≡ true)
@@ -54,8 +54,8 @@ returns c =
     let e : c .before .loop .k ≡ 20 = omega arith in
     rw e at (c .before .loop .inv .2)
 
-pub differences-spec : {M : Type 1} → statement M
-differences-spec =
+pub distances-spec : {M : Type 1} → statement M
+distances-spec =
     tie.close
     (tie.spec
     Inv-loop
