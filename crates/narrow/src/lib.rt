@@ -26,7 +26,7 @@ pub fn fresh(
     requires { ⌜ Bounds s × Long s (state freshHead (now counters) (now ticks) (now rows) (now threads)) ⌝ }
     ensures { λ r. ⌜ state r (now (counters .exit)) (now (ticks .exit)) (now (rows .exit)) (now (threads .exit)) ≡ fresh s (state freshHead (now (counters .entry)) (now (ticks .entry)) (now (rows .entry)) (now (threads .entry))) ⌝ }
 {
-    filter::clear(counters, (s.banks * 2048) as usize);
+    filter_turn::clear(counters, (s.banks * 2048) as usize);
     history::clear(ticks, rows, setting::history_length(s));
     quota::clear(threads, (s.banks * s.threads * 3) as usize);
     Head {
@@ -52,7 +52,7 @@ pub fn turn(s: Setting, h: Head, counters: &mut [u16], threads: &mut [u32], tick
     let head = x.head;
     let from = x.from;
     let epoch = x.to;
-    filter::turn(counters, s.banks as usize, from, epoch);
+    filter_turn::turn(counters, s.banks as usize, from, epoch);
     Moved { head, epoch }
 }
 

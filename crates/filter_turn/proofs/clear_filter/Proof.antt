@@ -1,11 +1,11 @@
--- `filter::clear_filter` meets its contract. The loop has cleared the filter in the first b banks.
+-- `filter_turn::clear_filter` meets its contract. The loop has cleared the filter in the first b banks.
 use Prim.Native.Nat.{_-_}
 use native.Mathlib.Omega.{arith}
 use Rattle.rules.proofs.Clearing.{Cleared, cleared-all}
-use Rattle.filter.proofs.Clearing.{banksOf, filter-none, filter-more}
+use Rattle.filter_turn.proofs.Clearing.{banksOf, filter-none, filter-more}
 use borrow.Author.Needs.{needs}
-use Rattle.filter.proofs.clear_filter.Statement.{statement}
-use Rattle.filter.proofs.clear_filter.Tie as tie
+use Rattle.filter_turn.proofs.clear_filter.Statement.{statement}
+use Rattle.filter_turn.proofs.clear_filter.Tie as tie
 
 abbrev Inv-loop : tie.InvT-loop
 Inv-loop counters₀ banks f b₀ counters b = Cleared (banksOf f) banks counters₀ b counters

@@ -1,9 +1,9 @@
--- `filter::clear` meets its contract: the run from cell 0 on is the used cells.
+-- `filter_turn::clear` meets its contract: the run from cell 0 on is the used cells.
 use mathlib.Core.Path.{_∙_}
-use Rattle.filter.proofs.Clearing.{run-used}
+use Rattle.filter_turn.proofs.Clearing.{run-used}
 use borrow.Author.Needs.{needs}
-use Rattle.filter.proofs.clear.Statement.{statement}
-use Rattle.filter.proofs.clear.Tie as tie
+use Rattle.filter_turn.proofs.clear.Statement.{statement}
+use Rattle.filter_turn.proofs.clear.Tie as tie
 
 clear-run-requires : tie.Need-clear-run-requires
 clear-run-requires c κs = search needs

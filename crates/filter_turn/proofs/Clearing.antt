@@ -13,7 +13,7 @@ use Rattle.rules.specs.Clock.{turnedCounters}
 use Rattle.rules.proofs.Tests.{and-i, and-l, and-r, or-l, or-r, or-e, same-test, lt-eq-facts, lt-eq-test}
 use Rattle.rules.proofs.Clearing.{clear-same, clear-clear, Cleared, cleared-none, cleared-more}
 use Rattle.rules.proofs.Clock.{turn-one, turn-both}
-use Rattle.filter.specs.Changes.{inRun, inFilter}
+use Rattle.filter_turn.specs.Changes.{inRun, inFilter}
 
 -- ---- tests of a cell, as facts
 
