@@ -1,56 +1,17 @@
 // The encoder, for C and for Rattle alike: block 0 from a setting and seeds, records put into a block, the block sealed.
 // A call that is refused gives a number and leaves the block as it was.
-use crate::bytes::put;
 use log_format::Entry;
-use log_read::block::add_up;
 use log_read::tests::and;
+use log_write::block::frame;
+use log_write::contents::put_record;
+use log_write::contents::put_seeds;
+use log_write::contents::put_setting;
 ghost use mathlib.Core.Path.{_≡_};
-ghost use Prim.Native.Nat.{_+_, _*_, _≤_, _<_, _^_};
+ghost use Prim.Native.Nat.{_^_};
 ghost use lib.Dec.{ltb};
-ghost use lib.ListN.{length, getD};
-ghost use lib.Seq.{sets};
+ghost use lib.ListN.{getD};
 ghost use Rattle.rules.specs.Cells.{every};
-ghost use Rattle.log_format.specs.Encode.{written, recordFits, putRecord, recordWritten, headed, padded, summed, framed, sealWritten, numbersBytes, startWritten};
-
-// ---- the frame of a block
-
-// The block number, the record count and three zeros.
-fn put_head(block: &mut [u8; 512], number: u64, count: u64)
-    ensures { λ _. ⌜ now (block .exit) ≡ headed (now (block .entry)) number count ⌝ }
-{
-    put(block, 0, 4, number);
-    put(block, 4, 1, count);
-    put(block, 5, 3, 0);
-}
-
-// Zeros from a place to the end of the body.
-fn pad(block: &mut [u8; 512], from: usize)
-    requires { ⌜ from ≤ 508 ⌝ }
-    ensures { λ _. ⌜ now (block .exit) ≡ padded (now (block .entry)) from ⌝ }
-{
-    for i in from..508 {
-        block[i] = 0;
-    }
-}
-
-// The two sums.
-fn put_sums(block: &mut [u8; 512])
-    ensures { λ _. ⌜ now (block .exit) ≡ summed (now (block .entry)) ⌝ }
-{
-    let s = add_up(&*block);
-    put(block, 508, 2, (s.plain % 65521) as u64);
-    put(block, 510, 2, (s.weighted % 65521) as u64);
-}
-
-// A block whose body ends at a place.
-fn frame(block: &mut [u8; 512], number: u64, count: u64, end: usize)
-    requires { ⌜ end ≤ 508 ⌝ }
-    ensures { λ _. ⌜ now (block .exit) ≡ framed (now (block .entry)) number count end ⌝ }
-{
-    put_head(block, number, count);
-    pad(block, end);
-    put_sums(block);
-}
+ghost use Rattle.log_format.specs.Encode.{written, recordFits, recordWritten, sealWritten, startWritten};
 
 // ---- records
 
@@ -61,21 +22,6 @@ fn record_fits(k: u64, e: Entry) -> bool
     let place = and(k < 20, e.bank < 256);
     let who = and(place, e.thread < 256);
     and(and(who, e.kind <= 1), e.answer <= 4)
-}
-
-fn put_record(block: &mut [u8; 512], k: usize, e: Entry)
-    requires { ⌜ k < 20 ⌝ }
-    ensures { λ _. ⌜ now (block .exit) ≡ putRecord (now (block .entry)) k e ⌝ }
-{
-    let at = 8 + 24 * k;
-    put(block, at, 8, e.tick);
-    put(block, at + 8, 8, e.wait);
-    put(block, at + 16, 2, e.row as u64);
-    put(block, at + 18, 1, e.bank);
-    put(block, at + 19, 1, e.thread);
-    put(block, at + 20, 1, e.kind);
-    put(block, at + 21, 1, e.answer);
-    put(block, at + 22, 2, 0);
 }
 
 // Puts a record into a block, at place 0 to 19. 13 for what the format cannot hold.
@@ -136,29 +82,6 @@ fn setting_fits(setting: &[u64; 9]) -> bool
         ok = and(ok, setting[i] < 4294967296);
     }
     ok
-}
-
-fn put_setting(block: &mut [u8; 512], setting: &[u64; 9])
-    ensures { λ _. ⌜ now (block .exit) ≡ sets (now (block .entry)) 8 (numbersBytes 4 (now (setting .entry)) 0 9) ⌝ }
-{
-    for i in 0..9 {
-        put(block, 8 + 4 * i, 4, setting[i]);
-    }
-}
-
-fn wide(x: u16) -> u64
-    ensures { λ r. ⌜ r ≡ x ⌝ }
-{
-    x as u64
-}
-
-fn put_seeds(block: &mut [u8; 512], seeds: &[u16])
-    requires { ⌜ length (now seeds) ≡ 64 ⌝ }
-    ensures { λ _. ⌜ now (block .exit) ≡ sets (now (block .entry)) 44 (numbersBytes 2 (now (seeds .entry)) 0 64) ⌝ }
-{
-    for i in 0..64 {
-        put(block, 44 + 2 * i, 2, wide(seeds[i]));
-    }
 }
 
 // Writes block 0. 1 for a field that does not fit 32 bits, or other than 64 seeds; whether the setting is accepted is not asked.

@@ -1,3 +1,3 @@
-// The log writer, for C and for Rattle: how a block of a log is written. The format is defined in the crate `log_format`.
-mod bytes;
+// The log writer, for C and for Rattle: the calls that write a block of a log, and the tests of what the format can hold. The bytes
+// are stored by the crate `log_write`; the format is defined in the crate `log_format`.
 pub mod encode;

@@ -1,4 +1,4 @@
--- `encode::pad`. The loop's invariant: storing the zeros that are left gives the block that is promised.
+-- `block::pad`. The loop's invariant: storing the zeros that are left gives the block that is promised.
 use Prim.Native.Nat.{_+_, _-_, _≤_}
 use mathlib.Core.Path.{_≡_, refl, sym, _∙_}
 use native.Mathlib.Omega.{arith}
@@ -7,8 +7,8 @@ use lib.Seq.{sets}
 use Rattle.log_format.specs.Encode.{padded}
 use Rattle.log_format.proofs.Stores.{pad-step}
 use borrow.Author.Needs.{needs}
-use Rattle.log.proofs.encode.pad.Statement.{statement}
-use Rattle.log.proofs.encode.pad.Tie as tie
+use Rattle.log_write.proofs.block.pad.Statement.{statement}
+use Rattle.log_write.proofs.block.pad.Tie as tie
 
 abbrev Inv-loop : tie.InvT-loop
 Inv-loop block₀ from i₀ block i = (i ≤ 508) × (sets block i (replicate (508 - i) 0) ≡ padded block₀ from)

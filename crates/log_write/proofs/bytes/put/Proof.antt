@@ -6,8 +6,8 @@ use lib.Seq.{sets}
 use Rattle.log_format.specs.Bytes.{bytesOf}
 use Rattle.log_format.proofs.Numbers.{put-step}
 use borrow.Author.Needs.{needs}
-use Rattle.log.proofs.bytes.put.Statement.{statement}
-use Rattle.log.proofs.bytes.put.Tie as tie
+use Rattle.log_write.proofs.bytes.put.Statement.{statement}
+use Rattle.log_write.proofs.bytes.put.Tie as tie
 
 abbrev Inv-loop : tie.InvT-loop
 Inv-loop block₀ at n x left₀ i₀ block left i = (i ≤ n) × (sets block (at + i) (bytesOf (n - i) left) ≡ sets block₀ at (bytesOf n x))

@@ -1,9 +1,9 @@
--- `encode::frame`: head, zeros and sums, one after another.
+-- `block::frame`: head, zeros and sums, one after another.
 use mathlib.Core.Path.{_∙_}
 use Rattle.log_format.specs.Encode.{framed}
 use borrow.Author.Needs.{needs}
-use Rattle.log.proofs.encode.frame.Statement.{statement}
-use Rattle.log.proofs.encode.frame.Tie as tie
+use Rattle.log_write.proofs.block.frame.Statement.{statement}
+use Rattle.log_write.proofs.block.frame.Tie as tie
 
 put-head-requires : tie.Need-put-head-requires
 put-head-requires c κs = search needs

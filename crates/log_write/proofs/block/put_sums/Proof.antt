@@ -1,10 +1,10 @@
--- `encode::put_sums`: the remainders of both sums, stored one after the other.
+-- `block::put_sums`: the remainders of both sums, stored one after the other.
 use mathlib.Core.Path.{refl, sym, _∙_}
 use Rattle.log_format.specs.Encode.{summed}
 use Rattle.log_format.proofs.Stores.{sets-number}
 use borrow.Author.Needs.{needs}
-use Rattle.log.proofs.encode.put_sums.Statement.{statement}
-use Rattle.log.proofs.encode.put_sums.Tie as tie
+use Rattle.log_write.proofs.block.put_sums.Statement.{statement}
+use Rattle.log_write.proofs.block.put_sums.Tie as tie
 
 add-up-requires : tie.Need-add-up-requires
 add-up-requires c κs = search needs

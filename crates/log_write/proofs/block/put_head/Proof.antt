@@ -1,9 +1,9 @@
--- `encode::put_head`: three runs of stores, one after another.
+-- `block::put_head`: three runs of stores, one after another.
 use mathlib.Core.Path.{_∙_}
 use Rattle.log_format.proofs.Stores.{head-stores}
 use borrow.Author.Needs.{needs}
-use Rattle.log.proofs.encode.put_head.Statement.{statement}
-use Rattle.log.proofs.encode.put_head.Tie as tie
+use Rattle.log_write.proofs.block.put_head.Statement.{statement}
+use Rattle.log_write.proofs.block.put_head.Tie as tie
 
 put-requires : tie.Need-put-requires
 put-requires c κs = search needs
