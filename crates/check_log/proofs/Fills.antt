@@ -7,7 +7,7 @@ use native.Mathlib.Omega.{arith}
 use lib.ListN.{length}
 use Rattle.rules.specs.Policy.{limits01, narrow}
 use Rattle.log_format.specs.Verdict.{Running, over, memory, ended, judgeBlock, judgeBlocks, unread, verdict}
-use Rattle.judge.specs.declared.Report.{Report}
+use Rattle.tally.specs.declared.Report.{Report}
 use Rattle.judge.specs.Follow.{reportOf, Follows}
 use Rattle.checker_block.specs.Blocks.{JudgedBlock}
 use Rattle.checker_records.proofs.Steps.{not-both}

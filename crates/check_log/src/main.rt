@@ -4,8 +4,8 @@
 use checker_block::Next;
 use checker_block::Reading;
 use input::Filled;
-use judge::Report;
 use libc::STDOUT_FILENO;
+use tally::Report;
 ghost use Prim.Native.Nat.{ℕ};
 ghost use mathlib.Core.Path.{_≡_};
 ghost use mathlib.Core.List.{List};

@@ -11,9 +11,9 @@ use Rattle.rules.specs.State.{freshHead, state}
 use Rattle.log_format.specs.Bytes.{blockAt, blocksFrom}
 use Rattle.log_format.specs.Verdict.{Verdict, Running, Step, over, on, memory, ended, verdictOf, judgeStart, judgeSound, judgeBlock, judgeBlocks, unread, verdict}
 use Rattle.log_format.proofs.Steps.{blocks-step}
-use Rattle.judge.specs.declared.Progress.{Progress}
-use Rattle.judge.specs.declared.Report.{Report}
-use Rattle.judge.specs.declared.Report.the-variants.{Refused, Agrees}
+use Rattle.tally.specs.declared.Progress.{Progress}
+use Rattle.tally.specs.declared.Report.{Report}
+use Rattle.tally.specs.declared.Report.the-variants.{Refused, Agrees}
 use Rattle.checker_block.specs.declared.Reading.{Reading}
 use Rattle.judge.specs.Follow.{progressOf, reportOf, Follows}
 use Rattle.checker_block.specs.Blocks.{readSoFar, Ready, JudgedBlock}

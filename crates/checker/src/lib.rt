@@ -2,10 +2,10 @@
 // the input. A block is judged only through its contract; the report is proved to be the one of the log's definition of the verdict.
 use checker_block::Reading;
 use checker_block::judge_block;
-use judge::Progress;
-use judge::Report;
 use rules::Head;
 use rules::Setting;
+use tally::Progress;
+use tally::Report;
 ghost use mathlib.Core.Path.{_≡_};
 ghost use mathlib.Core.List.{List};
 ghost use Prim.Native.Nat.{ℕ, _+_, _*_, _≤_};

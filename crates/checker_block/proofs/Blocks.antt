@@ -12,10 +12,10 @@ use Rattle.log_format.specs.Contents.{countIn, entriesIn}
 use Rattle.log_format.specs.Blocks.{blockRefusal}
 use Rattle.log_format.specs.Verdict.{Running, Step, over, on, andThen, nextBlock, judgeRecords, judgeStart, judgeLater, judgeSound, judgeBlock}
 use Rattle.log_format.proofs.Steps.{sound-laid-out, later-count}
-use Rattle.judge.specs.declared.Progress.{Progress}
-use Rattle.judge.specs.declared.Report.{Report}
-use Rattle.judge.specs.declared.Report.the-variants.{Refused}
-use Rattle.judge.specs.declared.After.{After}
+use Rattle.tally.specs.declared.Progress.{Progress}
+use Rattle.tally.specs.declared.Report.{Report}
+use Rattle.tally.specs.declared.Report.the-variants.{Refused}
+use Rattle.tally.specs.declared.After.{After}
 use Rattle.judge.specs.Follow.{running, Follows, Judged}
 use Rattle.checker_block.specs.Blocks.{Ready, JudgedBlock}
 use Rattle.checker_records.proofs.Steps.{not-both}

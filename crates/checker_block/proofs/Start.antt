@@ -16,8 +16,8 @@ use Rattle.sound.specs.Told.{Begun}
 use Rattle.log_format.specs.Refusals.{model}
 use Rattle.log_format.specs.Contents.{settingIn, seedsIn}
 use Rattle.log_format.specs.Verdict.{Running, refusedAfter, over, on, setUp, judgeStart}
-use Rattle.judge.specs.declared.Progress.{Progress}
-use Rattle.judge.specs.declared.Report.the-variants.{Refused}
+use Rattle.tally.specs.declared.Progress.{Progress}
+use Rattle.tally.specs.declared.Report.the-variants.{Refused}
 use Rattle.judge.specs.Follow.{running}
 use Rattle.checker_block.specs.Blocks.{JudgedBlock}
 use Rattle.checker_records.proofs.Steps.{not-both}

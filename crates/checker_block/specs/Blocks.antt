@@ -9,7 +9,7 @@ use Rattle.rules.specs.Policy.{limits01}
 use Rattle.rules.specs.Tested.{Sound}
 use Rattle.rules.specs.State.{state}
 use Rattle.log_format.specs.Verdict.{Running, Step}
-use Rattle.judge.specs.declared.Report.{Report}
+use Rattle.tally.specs.declared.Report.{Report}
 use Rattle.checker_block.specs.declared.Reading.{Reading}
 use Rattle.judge.specs.Follow.{running, Follows}
 

@@ -1,9 +1,9 @@
 // A block of a log: whether it is sound, and then its setting or its records. The judging of records, the reading of a block and set-up
 // are called only through their contracts, and every step is proved to be the one of the log's definition of the verdict.
-use judge::Progress;
-use judge::Report;
 use rules::Head;
 use rules::Setting;
+use tally::Progress;
+use tally::Report;
 ghost use Prim.Native.Nat.{_^_, _≤_, _<_};
 ghost use Rattle.rules.specs.Policy.{narrow};
 ghost use Rattle.log_format.specs.Contents.{countIn};

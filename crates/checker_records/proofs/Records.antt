@@ -12,9 +12,9 @@ use Rattle.log_format.specs.declared.Entry.{Entry}
 use Rattle.log_format.specs.Contents.{entryIn, entriesFrom}
 use Rattle.log_format.specs.Verdict.{Running, Step, on, judgeRecord, judgeRecords}
 use Rattle.log_format.proofs.Steps.{records-step}
-use Rattle.judge.specs.declared.Progress.{Progress}
-use Rattle.judge.specs.declared.Report.{Report}
-use Rattle.judge.specs.declared.After.{After}
+use Rattle.tally.specs.declared.Progress.{Progress}
+use Rattle.tally.specs.declared.Report.{Report}
+use Rattle.tally.specs.declared.After.{After}
 use Rattle.judge.specs.Follow.{running, Follows, Judged}
 use Rattle.checker_records.proofs.Steps.{over-then, on-then}
 use Rattle.rules.specs.Policy.{narrow}

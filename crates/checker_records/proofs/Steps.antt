@@ -4,7 +4,7 @@ use mathlib.Core.Bool.{Bool, true, false}
 use Prim.Native.Nat.{ℕ}
 use native.Mathlib.Omega.{arith}
 use Rattle.log_format.specs.Verdict.{Running, Step, over, on, andThen}
-use Rattle.judge.specs.declared.Report.{Report}
+use Rattle.tally.specs.declared.Report.{Report}
 use Rattle.judge.specs.Follow.{Follows}
 
 pub not-both : (b : Bool) → b ≡ true → b ≡ false → ⊥

@@ -1,11 +1,11 @@
 // The records of a block of a log, one by one up to the first event. The judging of one record and the reading of the block are called only through
 // their contracts.
-use judge::After;
-use judge::Progress;
-use judge::Report;
 use judge::entry::judge_record;
 use rules::Head;
 use rules::Setting;
+use tally::After;
+use tally::Progress;
+use tally::Report;
 ghost use mathlib.Core.Path.{_≡_};
 ghost use Prim.Native.Nat.{_≤_};
 ghost use Rattle.rules.specs.Answers.{none};
@@ -15,7 +15,8 @@ ghost use Rattle.rules.specs.Policy.{limits01, narrow};
 ghost use Rattle.rules.specs.Tested.{Sound};
 ghost use Rattle.log_format.specs.Contents.{countIn, entriesIn};
 ghost use Rattle.log_format.specs.Verdict.{judgeRecords};
-ghost use Rattle.judge.specs.Follow.{running, Room, Judged};
+ghost use Rattle.tally.specs.Settled.{Room};
+ghost use Rattle.judge.specs.Follow.{running, Judged};
 
 // The records of a block, up to the first event.
 pub fn judge_records(

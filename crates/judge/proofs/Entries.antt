@@ -18,9 +18,10 @@ use Rattle.log_format.specs.declared.Entry.{Entry}
 use Rattle.log_format.specs.Verdict.{Step, over, on, openedBy, counted, differsHere, judgeRecord}
 use Rattle.log_format.proofs.Records.{outcomeOf}
 use Rattle.log_format.proofs.Replies.{call-request, call-done, record-refused, record-answered, record-finished, opened-number}
-use Rattle.judge.specs.declared.Progress.{Progress}
-use Rattle.judge.specs.declared.Report.the-variants.{Refused, Differs}
-use Rattle.judge.specs.Follow.{running, Follows, refusedBy, countedOne, settled, Judged}
+use Rattle.tally.specs.declared.Progress.{Progress}
+use Rattle.tally.specs.declared.Report.the-variants.{Refused, Differs}
+use Rattle.tally.specs.Settled.{refusedBy, countedOne, settled}
+use Rattle.judge.specs.Follow.{running, Follows, Judged}
 
 module _ (s : Setting) (seeds : List ℕ) (p : Progress) (st : State) (e : Entry) where
   -- a record counted and compared follows the step of the reply with this number and wait tick

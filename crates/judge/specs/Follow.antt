@@ -1,20 +1,17 @@
 -- What the checker hands back, against the steps of the log's verdict.
 use mathlib.Core.Path.{_≡_}
 use mathlib.Core.List.{List}
-use mathlib.Core.Bool.{Bool, true, false, not, _&&_}
-use Prim.Native.Nat.{ℕ, _+_, _^_, _≤_}
-use lib.Dec.{eqb}
+use mathlib.Core.Bool.{Bool, true, false}
+use Prim.Native.Nat.{ℕ, _+_, _≤_}
 use Rattle.rules.specs.declared.Setting.{Setting}
-use Rattle.rules.specs.declared.Head.{Head}
 use Rattle.rules.specs.State.{State}
 use Rattle.rules.specs.Tested.{Sound}
-use Rattle.log_format.specs.declared.Entry.{Entry}
 use Rattle.log_format.specs.Refusals.{logRefusalNumber}
 use Rattle.log_format.specs.Verdict.{agrees, differs, Verdict, refusedAfter, judged, Progress as LogProgress, Running, Step, over, on}
-use Rattle.judge.specs.declared.Progress.{Progress}
-use Rattle.judge.specs.declared.Report.{Report}
-use Rattle.judge.specs.declared.Report.the-variants.{Refused, Agrees, Differs}
-use Rattle.judge.specs.declared.After.{After}
+use Rattle.tally.specs.declared.Progress.{Progress}
+use Rattle.tally.specs.declared.Report.{Report}
+use Rattle.tally.specs.declared.Report.the-variants.{Refused, Agrees, Differs}
+use Rattle.tally.specs.declared.After.{After}
 
 -- the definition's progress
 abbrev pub progressOf : Progress → LogProgress
@@ -35,33 +32,6 @@ reportOf (judged records opened (differs block place)) = Differs records opened 
 abbrev pub Follows : Bool → Report → Running → Step → Type 0
 Follows ended report x (over v) = (ended ≡ true) × (report ≡ reportOf v)
 Follows ended report x (on y) = (ended ≡ false) × (y ≡ x)
-
--- ---- a record
-
--- the log ends with a refusal of the model
-abbrev pub refusedBy : ℕ → Progress → Head → After
-refusedBy code p h = record { over = true; report = Refused code (p .blocks); progress = p; head = h }
-
--- one record more
-abbrev pub countedOne : Progress → ℕ → Progress
-countedOne p opened = record { blocks = p .blocks; records = p .records + 1; opened = p .opened + opened; last = p .last + 1 }
-
--- a record that is answered: counted, and over where it claims another answer or wait tick
-abbrev pub settled : Progress → Entry → ℕ → ℕ → ℕ → Head → After
-settled p e number wait opened h =
-    let q = countedOne p opened in
-    record {
-      over = not (eqb (e .answer) number && eqb (e .wait) wait);
-      report = Differs (q .records) (q .opened) (q .blocks) (q .last);
-      progress = q;
-      head = h;
-    }
-
--- the counts have room for so many records more
-pub record Room (p : Progress) (most : ℕ) : Type 0 where
-  pub records : p .records + most ≤ 2 ^ 62
-  pub opened : p .opened + most ≤ 2 ^ 62
-  pub last : p .last + most ≤ 2 ^ 62
 
 -- so many records of a block judged at most, from the progress p on: the step of the definition, on a state that passes the tests of 6 and 7
 pub record Judged (s : Setting) (seeds : List ℕ) (p : Progress) (most : ℕ) (r : After) (st : State) (y : Step) : Type 0 where

@@ -7,8 +7,8 @@ use native.Mathlib.Numerals.{add-one}
 use lib.ListN.{length, take, set, getD}
 use lib.Seq.{take-suc, take-suc-set, length-take-le}
 use Rattle.io.specs.Counts.{Counts}
-use Rattle.judge.specs.declared.Report.{Report}
-use Rattle.judge.specs.declared.Report.the-variants.{Refused, Agrees, Differs}
+use Rattle.tally.specs.declared.Report.{Report}
+use Rattle.tally.specs.declared.Report.the-variants.{Refused, Agrees, Differs}
 use Rattle.report.specs.Bytes.{bytes}
 use Rattle.report.specs.Text.{decimalOf, lineOf, lineOfTwo, countLines, textOf}
 

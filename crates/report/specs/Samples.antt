@@ -1,6 +1,6 @@
 -- Texts of the specification's sample runs, word for word, and the longest number.
 use mathlib.Core.Path.{_≡_, refl}
-use Rattle.judge.specs.declared.Report.the-variants.{Refused, Agrees, Differs}
+use Rattle.tally.specs.declared.Report.the-variants.{Refused, Agrees, Differs}
 use Rattle.report.specs.Bytes.{bytes}
 use Rattle.report.specs.Text.{decimalFrom, decimalOf, lineOf, lineOfTwo, countLines, textOf}
 

@@ -3,8 +3,8 @@ use mathlib.Core.List.{List, [], _∷_, _++_}
 use mathlib.Core.Bool.{cond}
 use Prim.Native.Nat.{ℕ, zero, suc, _+_, _/_, _%_}
 use lib.Dec.{ltb}
-use Rattle.judge.specs.declared.Report.{Report}
-use Rattle.judge.specs.declared.Report.the-variants.{Refused, Agrees, Differs}
+use Rattle.tally.specs.declared.Report.{Report}
+use Rattle.tally.specs.declared.Report.the-variants.{Refused, Agrees, Differs}
 use Rattle.report.specs.Bytes.{bytes}
 
 -- ---- numbers

@@ -1,6 +1,6 @@
 // The text of a report, in the words of document 01: fixed byte strings and decimal numbers, one behind the other in a buffer that the caller
 // lends. The text is proved to be the one of the definition, for every report.
-use judge::Report;
+use tally::Report;
 ghost use Prim.Native.Nat.{_+_, _≤_};
 ghost use mathlib.Core.Path.{_≡_};
 ghost use mathlib.Core.List.{_++_};

@@ -5,7 +5,7 @@ use native.Mathlib.Omega.{arith}
 use lib.ListN.{length}
 use Rattle.rules.specs.State.{State, state}
 use Rattle.log_format.specs.Contents.{countIn}
-use Rattle.judge.specs.declared.Report.the-variants.{Agrees}
+use Rattle.tally.specs.declared.Report.the-variants.{Agrees}
 use Rattle.checker_records.proofs.Records.{Going, going-none, going-more, going-over, going-all}
 use borrow.Author.Needs.{needs}
 use Rattle.checker_records.proofs.judge_records.Statement.{statement}

@@ -1,7 +1,7 @@
 -- `settle` counts a record and compares what it claims.
 use borrow.Author.Needs.{needs}
-use Rattle.judge.proofs.entry.settle.Statement.{statement}
-use Rattle.judge.proofs.entry.settle.Tie as tie
+use Rattle.tally.proofs.settle.Statement.{statement}
+use Rattle.tally.proofs.settle.Tie as tie
 
 claims-requires : tie.Need-claims-requires
 claims-requires c κs = search needs

@@ -1,8 +1,8 @@
 -- `opened_by` tests a number against 0.
 use borrow.Author.Tests.{eq-eqb, ne-eqb}
 use native.Mathlib.Omega.{arith}
-use Rattle.judge.proofs.entry.opened_by.Statement.{statement}
-use Rattle.judge.proofs.entry.opened_by.Tie as tie
+use Rattle.tally.proofs.opened_by.Statement.{statement}
+use Rattle.tally.proofs.opened_by.Tie as tie
 
 returns : tie.Need-returns
 returns c = (rw (eq-eqb (c .before .args .number) 0 (c .if1 .taken)), omega arith)

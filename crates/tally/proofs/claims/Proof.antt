@@ -1,7 +1,7 @@
 -- `claims` compares answer and wait tick.
 use borrow.Author.Tests.{eq-eqb, ne-eqb}
-use Rattle.judge.proofs.entry.claims.Statement.{statement}
-use Rattle.judge.proofs.entry.claims.Tie as tie
+use Rattle.tally.proofs.claims.Statement.{statement}
+use Rattle.tally.proofs.claims.Tie as tie
 
 returns : tie.Need-returns
 returns c =
