@@ -64,7 +64,7 @@ is_up_to_date() {
 
 # Sets `members` to the crates that a crate is made of, itself among them. What crates.txt does not list is a library of the toolchain.
 find_members() {
-    local line name todo=("$1")
+    local line name queue=("$1")
     local -A needs=() seen=()
     while IFS= read -r line || [ -n "$line" ]; do
         line=${line%%#*}
@@ -73,15 +73,15 @@ find_members() {
         [ -z "$name" ] || needs[$name]=${line#*:}
     done <"$root/crates.txt"
     members=()
-    while [ ${#todo[@]} -gt 0 ]; do
-        name=${todo[0]}
-        todo=("${todo[@]:1}")
+    while [ ${#queue[@]} -gt 0 ]; do
+        name=${queue[0]}
+        queue=("${queue[@]:1}")
         if [ -n "${needs[$name]+listed}" ] && [ -z "${seen[$name]:-}" ]; then
             seen[$name]=yes
             members+=("$name")
             # The dependencies are separate words.
             # shellcheck disable=SC2206
-            todo+=(${needs[$name]})
+            queue+=(${needs[$name]})
         fi
     done
     [ ${#members[@]} -gt 0 ] || fail "crates.txt does not list $1"
