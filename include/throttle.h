@@ -312,7 +312,8 @@ uint32_t throttle_done(const uint64_t setting[9], const uint16_t *seeds, size_t 
  * Reads the RowHammer likelihood index of a thread in a bank, c/D, and moves
  * the clock: out[0] is c, the activations of blacklisted rows counted in the
  * counter under test, out[1] is D = L - N, at which c stops, out[2] is the
- * quota floor(Q x (D - min(c, D)) / D).
+ * quota, Q x (D - min(c, D)) / D to the nearest whole number, an exact half to
+ * the even one.
  */
 THROTTLE_CHECKED
 uint32_t throttle_index(const uint64_t setting[9], const uint16_t *seeds, size_t seeds_len,

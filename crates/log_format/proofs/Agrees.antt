@@ -22,7 +22,7 @@ use Rattle.log_format.specs.Refusals.{model, sound, cut}
 use Rattle.log_format.specs.Contents.{settingIn, seedsIn}
 use Rattle.log_format.specs.Blocks.{blockRefusal}
 use Rattle.log_format.specs.Verdict.{agrees, refusedAfter, judged, Running, Step, over, on, memory, setUp, judgeStart, judgeSound, judgeBlock, verdictOf, judgeBlocks, unread, verdict}
-use Rattle.log_format.specs.Claims.{laterOf, settingOfLog, seedsOfLog, recordsOf, rulesOpen, Faithful, OnlyIf, Whenever}
+use Rattle.log_format.specs.Claims.{laterOf, settingOfLog, seedsOfLog, recordsOf, rulesOpen, WellFormed, Faithful, OnlyIf, Whenever}
 use Rattle.log_format.proofs.Records.{not-over, same-on}
 use Rattle.log_format.proofs.Judged.{never-agrees, over-agrees, judged-same, block-sound, sound-block, agreeing-judged, judged-agreeing, never-partial}
 
@@ -82,11 +82,17 @@ module _ (p : Policy) where
   unfolding verdict judgeBlocks
   by-start bytes w n = rw (blocks-first bytes 0 (length bytes / 512) n, eq-eqb (length bytes % 512) 0 w)
 
+  -- the verdict of a well-formed log under an accepted setting is that of its later blocks, from set-up
+  pub by-later : (bytes : List ℕ) → WellFormed bytes → settingRefusal (p .limits) (settingOfLog bytes) (seedsOfLog bytes) ≡ none
+      → verdict p bytes ≡ judgeBlocks p (setUp (settingOfLog bytes) (seedsOfLog bytes) (memory (p .limits))) (laterOf bytes) true
+  by-later bytes w ok =
+      by-start bytes (w .whole) (w .some)
+      ∙ ap (λ (t : Step). verdictOf t (λ (y : Running). judgeBlocks p y (laterOf bytes) true)) (start-on (blockAt bytes 0) (w .start) ok)
+
   pub whenever : Whenever p
   whenever bytes f =
       let x = setUp (settingOfLog bytes) (seedsOfLog bytes) (memory (p .limits)) in
-      by-start bytes (f .wellFormed .whole) (f .wellFormed .some)
-      ∙ ap (λ (t : Step). verdictOf t (λ (y : Running). judgeBlocks p y (laterOf bytes) true)) (start-on (blockAt bytes 0) (f .wellFormed .start) (f .accepted))
+      by-later bytes (f .wellFormed) (f .accepted)
       ∙ agreeing-judged p x (laterOf bytes) (omega arith) (record { blocks = f .wellFormed .later; records = f .decided })
       ∙ judged-same _ _ _ _ (omega arith) (omega arith)
 

@@ -55,7 +55,7 @@ stops-reply x e (shown c scale quota) st = tt
 pub never-agrees : (v : Verdict) (r o : ℕ) → Stops v → v ≡ judged r o agrees → ⊥
 never-agrees v r o p e = subst Stops e p
 
-length-entries : (s : List ℕ) (k n : ℕ) → length (entriesFrom s k n) ≡ n
+pub length-entries : (s : List ℕ) (k n : ℕ) → length (entriesFrom s k n) ≡ n
 length-entries s k zero = refl
 length-entries s k (suc n) = ap suc (length-entries s (suc k) n)
 

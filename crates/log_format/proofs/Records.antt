@@ -30,11 +30,11 @@ same-on x y e = cc
 
 -- ---- one record
 
-claims-true : (e : Entry) (r : Reply) → e .answer ≡ replyNumber r → e .wait ≡ replyWait r → claims e r ≡ true
+pub claims-true : (e : Entry) (r : Reply) → e .answer ≡ replyNumber r → e .wait ≡ replyWait r → claims e r ≡ true
 unfolding claims
 claims-true e r a w = simp (eq-eqb (e .answer) (replyNumber r) a, eq-eqb (e .wait) (replyWait r) w)
 
-true-claims : (e : Entry) (r : Reply) → claims e r ≡ true → (e .answer ≡ replyNumber r) × (e .wait ≡ replyWait r)
+pub true-claims : (e : Entry) (r : Reply) → claims e r ≡ true → (e .answer ≡ replyNumber r) × (e .wait ≡ replyWait r)
 unfolding claims
 true-claims e r h =
     let a = eqb (e .answer) (replyNumber r) in
@@ -42,7 +42,7 @@ true-claims e r h =
     let t : T (a && w) = holds (a && w) h in
     (eqb→eq (e .answer) (replyNumber r) (and-l a w t), eqb→eq (e .wait) (replyWait r) (and-r a w t))
 
-reply-on : (x : Running) (e : Entry) (r : Reply) (st : State) → Decision e r → judgeReply x e r st ≡ on (counted x r st)
+pub reply-on : (x : Running) (e : Entry) (r : Reply) (st : State) → Decision e r → judgeReply x e r st ≡ on (counted x r st)
 reply-on x e (refused r) st d = absurd d
 reply-on x e (answered a) st d = rw (claims-true e (answered a) (d .0) (d .1))
 reply-on x e finished st d = rw (claims-true e finished (d .0) (d .1))

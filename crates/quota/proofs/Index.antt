@@ -1,16 +1,16 @@
 -- A thread's cells, the quota, and the activation.
-use mathlib.Core.Path.{_≡_, sym, ap}
+use mathlib.Core.Path.{_≡_, ap}
 use mathlib.Core.List.{List}
 use mathlib.Core.Bool.{true, false}
-use Prim.Native.Nat.{ℕ, _+_, _-_, _*_, _/_, _^_, _≤_, _<_, min}
+use Prim.Native.Nat.{ℕ, _+_, _-_, _*_, _^_, _≤_, _<_, min}
 use native.Mathlib.Omega.{arith}
-use native.Mathlib.Nat.{mul-le-mul, mul-div-cancel}
+use native.Mathlib.Nat.{mul-le-mul}
 use lib.ListN.{getD, set}
 use Rattle.rules.specs.declared.Setting.{Setting}
 use Rattle.rules.specs.Setting.{indexScale}
 use Rattle.rules.specs.State.{threadCell}
 use Rattle.rules.specs.Filter.{raised}
-use Rattle.rules.specs.Quota.{quotaDown}
+use Rattle.rules.specs.Quota.{halfEven, quotaEven}
 use Rattle.rules.specs.Decision.{activatedThreads}
 
 -- the k-th cell from the first
@@ -25,17 +25,10 @@ group-small s bank hb h k = mul-le-mul {n₂ = 16} {m₂ = 32} (omega arith) k
 pub share-small : (q left : ℕ) → q ≤ 255 → left ≤ 2 ^ 24 → q * left ≤ 255 * 2 ^ 24
 share-small q left h k = mul-le-mul {n₂ = 255} {m₂ = 16777216} h k
 
--- with the full scale not 0 and what is left of it as `remaining` gives it
-pub quota-is : (s : Setting) (c left : ℕ) → left ≡ indexScale s - min c (indexScale s) → s .q * left / indexScale s ≡ quotaDown s c
-unfolding quotaDown
+-- with what is left of the full scale as `remaining` gives it
+pub quota-is : (s : Setting) (c left : ℕ) → left ≡ indexScale s - min c (indexScale s) → halfEven (s .q * left) (indexScale s) ≡ quotaEven s c
+unfolding quotaEven
 quota-is s c left e = rw e
-
--- the quota while the counter is 0
-pub quota-full : (s : Setting) → s .n < s .l → s .q ≡ quotaDown s 0
-unfolding quotaDown
-quota-full s h =
-    let e : indexScale s - min 0 (indexScale s) ≡ indexScale s = omega arith in
-    rw e (sym (mul-div-cancel (s .q) (omega arith)))
 
 -- what a thread's cell holds, by its place from the first
 pub held-at : (s : Setting) (ts : List ℕ) (bank thread at k : ℕ) → at ≡ threadCell s bank thread 0

@@ -1,7 +1,7 @@
 // The thread counters: for each bank and thread two index counters and the number in flight, three cells of 32 bits together.
 // The definitions that the contracts cite are those of the crate `rules`.
 ghost use mathlib.Core.Path.{_≡_};
-ghost use Prim.Native.Nat.{_+_, _-_, _*_, _/_, _%_, _^_, _≤_, _<_, min};
+ghost use Prim.Native.Nat.{_+_, _-_, _*_, _%_, _^_, _≤_, _<_, min};
 ghost use lib.Dec.{ltb};
 ghost use lib.ListN.{length, getD, set};
 ghost use Rattle.rules.specs.Cells.{clearCells};
@@ -9,7 +9,7 @@ ghost use Rattle.rules.specs.Setting.{indexScale};
 ghost use Rattle.rules.specs.State.{threadCell, threadsUsed};
 ghost use Rattle.rules.specs.Clock.{turnedThreads};
 ghost use Rattle.rules.specs.Filter.{raised};
-ghost use Rattle.rules.specs.Quota.{quotaDown};
+ghost use Rattle.rules.specs.Quota.{halfEven, quotaEven};
 ghost use Rattle.rules.specs.Decision.{activatedThreads};
 ghost use Rattle.quota.specs.Kinds.{kindBelow};
 
@@ -20,29 +20,38 @@ fn remaining(c: u32, scale: u32) -> u32
     if c < scale { scale - c } else { 0 }
 }
 
-// a / b, rounded down.
-fn floor_div(a: u32, b: u32) -> u32
+// a / b to the nearest whole number, an exact half to the even one.
+fn nearest(a: u32, b: u32) -> u32
     requires { ⌜ (1 ≤ b) × (b ≤ 2 ^ 24) × (a ≤ 255 * 2 ^ 24) ⌝ }
-    ensures { λ r. ⌜ r ≡ a / b ⌝ }
+    ensures { λ r. ⌜ r ≡ halfEven a b ⌝ }
 {
-    a / b
+    let whole = a / b;
+    let rest = a % b;
+    let twice = 2 * rest;
+    if twice < b {
+        return whole;
+    }
+    if b < twice {
+        return whole + 1;
+    }
+    whole + whole % 2
 }
 
 // The quota by its formula. All products are below 2^32, so the division is one of 32 bits.
 fn share(s: rules::Setting, c: u32) -> u64
     requires { ⌜ (s .n < s .l) × (s .l ≤ 2 ^ 24) × (s .q ≤ 255) ⌝ }
-    ensures { λ r. ⌜ (r ≡ quotaDown s c) × (r ≤ 255) ⌝ }
+    ensures { λ r. ⌜ (r ≡ quotaEven s c) × (r ≤ 255) ⌝ }
 {
     let scale = (s.l - s.n) as u32;
     let left = remaining(c, scale);
     let product = s.q as u32 * left;
-    floor_div(product, scale) as u64
+    nearest(product, scale) as u64
 }
 
 // The quota of a thread in a bank whose index counter in test is c. It is Q, with no division, while the counter is 0.
 pub fn quota(s: rules::Setting, c: u32) -> u64
     requires { ⌜ (s .n < s .l) × (s .l ≤ 2 ^ 24) × (s .q ≤ 255) ⌝ }
-    ensures { λ r. ⌜ (r ≡ quotaDown s c) × (r ≤ 255) ⌝ }
+    ensures { λ r. ⌜ (r ≡ quotaEven s c) × (r ≤ 255) ⌝ }
 {
     if c == 0 {
         return s.q;

@@ -18,6 +18,7 @@ pub mod Moves
 pub mod Step
 pub mod Demand
 pub mod Sound
+pub mod Rounding
 pub mod Regular
 pub mod Fits
 pub mod First
@@ -30,4 +31,3 @@ pub mod Used
 pub mod Rest
 pub mod Later
 pub mod Theorems
-pub mod Samples

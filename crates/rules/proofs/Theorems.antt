@@ -5,7 +5,8 @@ use Rattle.rules.proofs.Step.{step-moves}
 use Rattle.rules.proofs.Demand.{spans, within-bound, demand-3}
 use Rattle.rules.proofs.Wait.{wait-is-least, wait-is-closed}
 use Rattle.rules.proofs.Threshold.{below-threshold}
-use Rattle.rules.proofs.Regular.{in-force-regular, in-force-used-flying}
+use Rattle.rules.proofs.Rounding.{rounds}
+use Rattle.rules.proofs.Regular.{in-force-rounds, in-force-regular, in-force-used-flying}
 use Rattle.rules.proofs.Used.{same-replies}
 use Rattle.rules.proofs.Rest.{rest-kept}
 use Rattle.rules.proofs.Later.{turns-add, wait-is-later, opened-at-wait, never-wait-row}
@@ -34,6 +35,8 @@ theorems =
       neverMemory = never-memory;
       stepFits = step-fits;
       runFits = run-fits;
+      rounds = rounds;
+      inForceRounds = in-force-rounds;
       inForceRegular = in-force-regular;
       inForceUsedFlying = in-force-used-flying;
     }

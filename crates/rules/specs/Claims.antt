@@ -13,11 +13,12 @@ use Rattle.rules.specs.declared.Cause.the-variants.{Row}
 use Rattle.rules.specs.declared.Answer.the-variants.{Opened, Wait}
 use Rattle.rules.specs.Cells.{ceilDiv, All}
 use Rattle.rules.specs.Answers.{none, shortBuffer, badMemory}
-use Rattle.rules.specs.Setting.{epochLength, historyLength, rowBound, seedsInRange, settingRefusal}
+use Rattle.rules.specs.Setting.{epochLength, historyLength, rowBound, indexScale, seedsInRange, settingRefusal}
 use Rattle.rules.specs.State.{State, countersUsed, threadsUsed, threadCell, rowWord, fresh, headWords}
 use Rattle.rules.specs.Clock.{epoch, turned}
 use Rattle.rules.specs.Filter.{Within, estimate}
 use Rattle.rules.specs.History.{find}
+use Rattle.rules.specs.Quota.{halfEven}
 use Rattle.rules.specs.Policy.{Policy, inForce}
 use Rattle.rules.specs.Tested.{Accepted, Long}
 use Rattle.rules.specs.Decision.{quotaRule, activeEstimate, rowRule, decide, passesAt, waitTick}
@@ -164,6 +165,25 @@ pub record Regular (p : Policy) : Type 0 where
   pub ownFlying : (s : Setting) (threads : List ℕ) (bank thread : ℕ) → bank < s .banks → thread < s .threads
       → getD threads (threadCell s bank thread 2) 0 ≤ p .inFlight s threads bank thread
 
+-- the distance of two numbers
+abbrev pub distance : ℕ → ℕ → ℕ
+distance a b = (a - b) + (b - a)
+
+-- q is a whole number nearest to x/d, and even where another one is as near: 2 × |q × d − x| ≤ d, and q is even where the two are equal
+pub record Nearest (x d q : ℕ) : Type 0 where
+  pub near : 2 * distance (q * d) x ≤ d
+  pub even : 2 * distance (q * d) x ≡ d → q % 2 ≡ 0
+
+-- "rounding to the nearest whole request, with an exact half going to the even one" gives such a number, and there is no other.
+abbrev pub Rounds : Type 0
+Rounds = (x d : ℕ) → 1 ≤ d → Nearest x d (halfEven x d) × ((q : ℕ) → Nearest x d q → q ≡ halfEven x d)
+
+-- The quota of a policy is that number for "Q × (D − min(c, D))/D", under every setting that its limits accept and every counter.
+abbrev pub QuotaRounds : Policy → Type 0
+QuotaRounds p =
+    (s : Setting) (seeds : List ℕ) → Accepted (p .limits) s seeds
+    → (c : ℕ) → Nearest (s .q * (indexScale s - min c (indexScale s))) (indexScale s) (p .quota s c)
+
 -- A first request after set-up, with bank and thread of the setting and a tick below 2^62, is opened.
 abbrev pub FirstOpened : Policy → Type 0
 FirstOpened p =
@@ -277,5 +297,7 @@ pub record Theorems : Type 0 where
   pub firstOpened : (p : Policy) → Regular p → FirstOpened p
   pub stepFits : (p : Policy) → Regular p → StepFits p
   pub runFits : (p : Policy) → Regular p → RunFits p
+  pub rounds : Rounds
+  pub inForceRounds : (m : Limits) → QuotaRounds (inForce m)
   pub inForceRegular : (m : Limits) → Regular (inForce m)
   pub inForceUsedFlying : (m : Limits) → UsedFlying (inForce m)

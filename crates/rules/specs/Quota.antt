@@ -1,14 +1,24 @@
 -- Index and quota, and what in flight means.
 use mathlib.Core.List.{List}
-use Prim.Native.Nat.{ℕ, _-_, _*_, _/_, min}
+use mathlib.Core.Bool.{cond}
+use Prim.Native.Nat.{ℕ, _+_, _-_, _*_, _/_, _%_, min}
+use lib.Dec.{ltb, eqb}
 use lib.ListN.{getD}
 use Rattle.rules.specs.declared.Setting.{Setting}
 use Rattle.rules.specs.Setting.{indexScale}
 use Rattle.rules.specs.State.{threadCell}
 
--- "the quota is floor(Q × (D − min(c, D))/D)"
+-- document 01: "the quota is floor(Q × (D − min(c, D))/D)"
 unfoldable pub quotaDown : Setting → ℕ → ℕ
 quotaDown s c = s .q * (indexScale s - min c (indexScale s)) / indexScale s
+
+-- x/d by "rounding to the nearest whole request, with an exact half going to the even one". `Rounds` of Claims.antt says what it is without this formula.
+unfoldable pub halfEven : ℕ → ℕ → ℕ
+halfEven x d = cond (ltb d (2 * (x % d))) (x / d + 1) (cond (eqb (2 * (x % d)) d) (x / d + x / d % 2) (x / d))
+
+-- document 02, d: "Q × (D − min(c, D))/D follows that instead of rounding down."
+unfoldable pub quotaEven : Setting → ℕ → ℕ
+quotaEven s c = halfEven (s .q * (indexScale s - min c (indexScale s))) (indexScale s)
 
 -- "In flight means opened and not yet done; .. here it is kept for each bank."
 abbrev pub inFlightHere : Setting → List ℕ → ℕ → ℕ → ℕ

@@ -1,8 +1,9 @@
 -- `quota::quota`: the full quota while the counter is 0, and else the formula.
 use mathlib.Core.Path.{sym, ap, _∙_}
 use borrow.Author.Needs.{needs}
-use Rattle.rules.specs.Quota.{quotaDown}
-use Rattle.quota.proofs.Index.{quota-full}
+use native.Mathlib.Omega.{arith}
+use Rattle.rules.specs.Quota.{quotaEven}
+use Rattle.rules.proofs.Regular.{quota-full}
 use Rattle.quota.proofs.quota.Statement.{statement}
 use Rattle.quota.proofs.quota.Tie as tie
 
@@ -10,7 +11,7 @@ returns : tie.Need-returns
 returns c =
     let a = c .before .args in
     let p = c .before .pre in
-    (quota-full (a .s) (p .0) ∙ sym (ap (quotaDown (a .s)) (c .if1 .taken)), p .2)
+    (sym (quota-full (a .s) (omega arith)) ∙ sym (ap (quotaEven (a .s)) (c .if1 .taken)), p .2)
 
 share-requires : tie.Need-share-requires
 share-requires c κs = search needs

@@ -1,4 +1,4 @@
--- `quota::share`: the product fits 32 bits, and the quotient is the definition's and at most Q.
+-- `quota::share`: the product fits 32 bits, and its share of the scale is rounded as the definition says and at most Q.
 use mathlib.Core.Path.{_∙_}
 use native.Mathlib.Omega.{arith}
 use Rattle.rules.proofs.Regular.{quota-most}
@@ -22,8 +22,8 @@ cast-product c = search needs
 mul-product : tie.Need-mul-product
 mul-product c = omega (arith, share-small (c .before .before .before .args .s .q) (c .before .remaining .result) (search needs) (omega arith))
 
-floor-div-requires : tie.Need-floor-div-requires
-floor-div-requires c κs = (omega arith, omega arith, share-small (c .before .before .before .args .s .q) (c .before .remaining .result) (search needs) (omega arith))
+nearest-requires : tie.Need-nearest-requires
+nearest-requires c κs = (omega arith, omega arith, share-small (c .before .before .before .args .s .q) (c .before .remaining .result) (search needs) (omega arith))
 
 cast-result : tie.Need-cast-result
 cast-result c = search needs
@@ -31,8 +31,8 @@ cast-result c = search needs
 returns : tie.Need-returns
 returns c =
     let a = c .before .before .before .before .args in
-    let e = c .floor-div .ensures ∙ quota-is (a .s) (a .c) (c .before .before .remaining .result) (c .before .before .remaining .ensures .0) in
-    (e, omega (arith, e, quota-most (a .s) (a .c)))
+    let e = c .nearest .ensures ∙ quota-is (a .s) (a .c) (c .before .before .remaining .result) (c .before .before .remaining .ensures .0) in
+    (e, omega (arith, e, quota-most (a .s) (a .c) (omega arith)))
 
 pub share-spec : {M : Type 1} → statement M
 share-spec =
@@ -43,6 +43,6 @@ share-spec =
     remaining-requires
     cast-product
     mul-product
-    floor-div-requires
+    nearest-requires
     cast-result
     returns)

@@ -1,0 +1,42 @@
+-- The (p) cases of document 01, by computation.
+use mathlib.Core.Path.{refl}
+use Rattle.rules.specs.Setting.{settingOf, historyLength, rowBound, fieldsInRange, seedsInRange, settingRefusal}
+use Rattle.rules.specs.State.{headOf, tooShort, freshHead, fresh}
+use Rattle.rules.specs.Clock.{turnedCounters, turnedThreads, movedHead, turned}
+use Rattle.rules.specs.Hash.{hash, places}
+use Rattle.rules.specs.Filter.{estimate, raised, named, counted}
+use Rattle.rules.specs.History.{nextPlace, back, neverRises, memoryOk, rowFree}
+use Rattle.rules.specs.Quota.{quotaDown, halfEven, quotaEven}
+use Rattle.rules.specs.Decision.{passesAt, waitTick, decide, activatedHead, activatedThreads, activated}
+use Rattle.rules.specs.Calls.{setupRefusal, callRefusal, doneRefusal, unlessRefused, requested, reported, indexShown, step}
+use Rattle.rules.specs.Samples.{house}
+use Rattle.cases.specs.Cases.{before, Numbers, Tables}
+
+numbers : Numbers
+unfolding house before settingOf historyLength rowBound fieldsInRange seedsInRange settingRefusal headOf tooShort hash places raised named counted setupRefusal
+numbers =
+    record {
+      bound = refl;
+      history = refl;
+      limit9 = refl;
+      accepted = refl;
+      setup = refl;
+      bound4096 = refl;
+      bound31064 = refl;
+      bound8192 = refl;
+      row3 = (refl, refl);
+      row0 = refl;
+      row0-adds = refl;
+      published = refl;
+      half = refl;
+    }
+
+pub tables : Tables
+unfolding house before settingOf historyLength rowBound fieldsInRange seedsInRange settingRefusal headOf tooShort freshHead fresh turnedCounters turnedThreads movedHead turned hash places estimate raised named counted nextPlace back neverRises memoryOk rowFree quotaDown halfEven quotaEven passesAt waitTick decide activatedHead activatedThreads activated setupRefusal callRefusal doneRefusal unlessRefused requested reported indexShown step
+tables =
+    record {
+      oldCases = record { numbers = numbers; ticks18-38 = refl; ticks18-21 = refl; tick5 = refl; fresh-done = refl };
+      newCases = record { numbers = numbers; ticks18-38 = refl; ticks18-21 = refl; tick5 = refl; fresh-done = refl };
+      tick8 = refl;
+      three = refl;
+    }

@@ -1,0 +1,5 @@
+pub mod Lists
+pub mod Differs
+pub mod Same
+pub mod Change
+pub mod Theorems

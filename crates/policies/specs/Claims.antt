@@ -1,0 +1,95 @@
+-- What is proved about logs when the rules change: the statements, as types. Their proofs are in proofs/.
+use mathlib.Core.Path.{_≡_}
+use mathlib.Core.Logic.{_≢_}
+use mathlib.Core.List.{List, [], _∷_, _++_}
+use mathlib.Core.Bool.{cond}
+use Prim.Native.Nat.{ℕ, _+_, _-_}
+use lib.Dec.{ltb}
+use lib.ListN.{length}
+use Rattle.rules.specs.declared.Setting.{Setting}
+use Rattle.rules.specs.declared.Limits.{Limits}
+use Rattle.rules.specs.Answers.{Refusal, none}
+use Rattle.rules.specs.Setting.{settingRefusal}
+use Rattle.rules.specs.Quota.{quotaDown, quotaEven}
+use Rattle.rules.specs.Policy.{Policy, document01, narrow}
+use Rattle.rules.specs.Calls.{Reply, refused}
+use Rattle.log_format.specs.declared.Entry.{Entry}
+use Rattle.log_format.specs.Contents.{countIn}
+use Rattle.log_format.specs.Verdict.{Ending, agrees, differs, judged, verdict}
+use Rattle.log_format.specs.Claims.{settingOfLog, seedsOfLog, laterOf, recordsOf, rulesSay, rulesOpen, Decision, Decided, WellFormed}
+
+-- ---- where a log differs
+
+-- "`differs` with block number (from 0) and record place in it (from 1)", for record i, from 0, of these blocks; b is the number of the first
+-- of them
+abbrev pub differsAt : ℕ → List (List ℕ) → ℕ → Ending
+differsAt b [] i = differs b (i + 1)
+differsAt b (s ∷ ss) i = cond (ltb i (countIn s)) (differs b (i + 1)) (differsAt (b + 1) ss (i - countIn s))
+
+-- what the rules of a policy say of records of this log, and how many they open
+abbrev pub saidOf : Policy → List ℕ → List Entry → List Reply
+saidOf p bytes es = rulesSay p (settingOfLog bytes) (seedsOfLog bytes) es
+
+abbrev pub openedOf : Policy → List ℕ → List Entry → ℕ
+openedOf p bytes es = rulesOpen p (settingOfLog bytes) (seedsOfLog bytes) es
+
+-- A well-formed log under an accepted setting differs at its first record that is not the rules' decision, if the rules do not refuse it. The
+-- counts are those of the records before it, "the differing record is counted in the first line, and in the second if the rules open it".
+abbrev pub DiffersAtFirst : Policy → Type 0
+DiffersAtFirst p =
+    (bytes : List ℕ) → WellFormed bytes → settingRefusal (p .limits) (settingOfLog bytes) (seedsOfLog bytes) ≡ none
+    → (before rest : List Entry) (e : Entry) → recordsOf bytes ≡ before ++ (e ∷ rest)
+    → Decided before (saidOf p bytes before)
+    → (r : Reply) → saidOf p bytes (before ++ (e ∷ [])) ≡ saidOf p bytes before ++ (r ∷ [])
+    → ((n : Refusal) → r ≢ refused n) → (Decision e r → ⊥)
+    → verdict p bytes ≡ judged (length before + 1) (openedOf p bytes (before ++ (e ∷ []))) (differsAt 1 (laterOf bytes) (length before))
+
+-- ---- two policies
+
+-- After these records of the log, e is the first on which the two policies decide differently.
+pub record FirstApart (p q : Policy) (bytes : List ℕ) (before : List Entry) (e : Entry) : Type 0 where
+  pub alike : saidOf q bytes before ≡ saidOf p bytes before
+  pub apart : saidOf q bytes (before ++ (e ∷ [])) ≢ saidOf p bytes (before ++ (e ∷ []))
+
+-- What becomes of a log that agrees under p, with r records and o opened, under q: "A log that agreed under the old .. differs at the first
+-- entry that the two .. decide differently, and agrees if there is none." Records and openings are counted as q decides, that record included.
+pub record Becomes (p q : Policy) (bytes : List ℕ) (r o : ℕ) : Type 0 where
+  pub differing : (before rest : List Entry) (e : Entry) → recordsOf bytes ≡ before ++ (e ∷ rest) → FirstApart p q bytes before e
+      → verdict q bytes ≡ judged (length before + 1) (openedOf q bytes (before ++ (e ∷ []))) (differsAt 1 (laterOf bytes) (length before))
+  pub agreeing : ((before rest : List Entry) (e : Entry) → recordsOf bytes ≡ before ++ (e ∷ rest) → FirstApart p q bytes before e → ⊥)
+      → verdict q bytes ≡ judged r o agrees
+
+-- for any two policies with the same limits
+abbrev pub AfterChange : Policy → Policy → Type 0
+AfterChange p q = p .limits ≡ q .limits → (bytes : List ℕ) (r o : ℕ) → verdict p bytes ≡ judged r o agrees → Becomes p q bytes r o
+
+-- ---- request d
+
+-- a rule of what in flight means
+abbrev pub InFlight : Type 0
+InFlight = Setting → List ℕ → ℕ → ℕ → ℕ
+
+-- the policies with the old and the new rounding of the quota
+abbrev pub roundedDown : Limits → InFlight → Policy
+roundedDown m flying = record { limits = m; quota = quotaDown; inFlight = flying }
+
+abbrev pub roundedEven : Limits → InFlight → Policy
+roundedEven m flying = record { limits = m; quota = quotaEven; inFlight = flying }
+
+-- "A log that agreed under the old rounding differs at the first entry that the two roundings decide differently, and agrees if there is none."
+abbrev pub AfterRounding : Type 0
+AfterRounding =
+    (m : Limits) (flying : InFlight) (bytes : List ℕ) (r o : ℕ) → verdict (roundedDown m flying) bytes ≡ judged r o agrees
+    → Becomes (roundedDown m flying) (roundedEven m flying) bytes r o
+
+-- the same of logs of document 01's rules and the rules in force
+abbrev pub SinceDocument01 : Type 0
+SinceDocument01 = (bytes : List ℕ) (r o : ℕ) → verdict document01 bytes ≡ judged r o agrees → Becomes document01 narrow bytes r o
+
+-- ---- all of it
+
+pub record Theorems : Type 0 where
+  pub differsAtFirst : (p : Policy) → DiffersAtFirst p
+  pub afterChange : (p q : Policy) → AfterChange p q
+  pub afterRounding : AfterRounding
+  pub sinceDocument01 : SinceDocument01
