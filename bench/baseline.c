@@ -272,10 +272,18 @@ static uint64_t wait_tick(const struct rules *r, const uint64_t head[22], const 
     return ready < turn && !black_next && turn < free ? turn : free;
 }
 
-/* floor(Q x (D - min(c, D)) / D); the product is below 2^32. */
+/*
+ * Q x (D - min(c, D)) / D to the nearest whole number, an exact half to the
+ * even one. The product is below 2^32. The number below it is raised by 1 if
+ * twice the rest is above D, or equal to D where that number is odd.
+ */
 static uint32_t quota(const struct rules *r, uint32_t c)
 {
-    return c >= r->scale ? 0 : r->q * (r->scale - c) / r->scale;
+    if (c >= r->scale)
+        return 0;
+    uint32_t share = r->q * (r->scale - c), below = share / r->scale;
+    uint32_t twice = 2 * (share - below * r->scale);
+    return below + ((twice > r->scale) | ((twice == r->scale) & below));
 }
 
 /* Writes an activation to head, history, filters and thread counters. */

@@ -72,6 +72,28 @@ static inline void give_back(struct lent *m)
     free(m->three);
 }
 
+/* A copy of the state, in memory as long as the setting uses. */
+static inline struct lent copy(const struct lent *m, const struct throttle_setting *s)
+{
+    struct lent c = lend(s);
+    memcpy(c.head, m->head, THROTTLE_HEAD_CELLS * 8);
+    memcpy(c.counters, m->counters, c.counters_len * 2);
+    memcpy(c.ticks, m->ticks, c.ticks_len * 8);
+    memcpy(c.rows, m->rows, c.rows_len * 4);
+    memcpy(c.threads, m->threads, c.threads_len * 4);
+    return c;
+}
+
+/* The state is that of the copy. */
+static inline int same(const struct lent *m, const struct lent *c)
+{
+    return memcmp(m->head, c->head, THROTTLE_HEAD_CELLS * 8) == 0 &&
+           memcmp(m->counters, c->counters, c->counters_len * 2) == 0 &&
+           memcmp(m->ticks, c->ticks, c->ticks_len * 8) == 0 &&
+           memcmp(m->rows, c->rows, c->rows_len * 4) == 0 &&
+           memcmp(m->threads, c->threads, c->threads_len * 4) == 0;
+}
+
 static inline uint32_t setup(struct lent *m)
 {
     return throttle_setup(m->words, m->seeds, m->seeds_len, m->head, m->counters, m->counters_len,

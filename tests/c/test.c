@@ -132,9 +132,9 @@ static void samples(void)
     CHECK(answers(&m, 1, THROTTLE_OPENED, 0));
     CHECK(answers(&m, 2, THROTTLE_WAIT_ROW, 7));
     CHECK(answers(&m, 7, THROTTLE_OPENED, 0));
-    CHECK(answers(&m, 8, THROTTLE_QUOTA, 0));
+    CHECK(answers(&m, 8, THROTTLE_WAIT_ROW, 13));
     CHECK(reading(&m, 8, 0, 0) == 0);
-    CHECK(m.three[0] == 1 && m.three[1] == 8 && m.three[2] == 3);
+    CHECK(m.three[0] == 1 && m.three[1] == 8 && m.three[2] == 4);
     CHECK(request(&m, 7, 0, 0, 5) == THROTTLE_BAD_TICK);
 
     CHECK(setup(&m) == 0);
@@ -153,6 +153,33 @@ static void samples(void)
         CHECK(request(&m, 6 + row, 0, 0, row) == 0 && m.two[0] == THROTTLE_OPENED);
     CHECK(done(&m, 9, 0, 0) == 0);
     CHECK(request(&m, 9, 0, 0, 9) == 0 && m.two[0] == THROTTLE_WAIT_BANK && m.two[1] == 10);
+    give_back(&m);
+}
+
+/*
+ * Quotas with their Q, D and c, at and around exact halves, which go to the even
+ * number. A request is held by the quota with as many in flight, not with one less.
+ */
+static void quotas(void)
+{
+    static const struct {
+        uint64_t quota, q, d;
+        uint32_t c;
+    } cases[] = {{0, 1, 8, 4},  {2, 3, 8, 4}, {2, 4, 8, 3}, {4, 4, 8, 1},
+                 {4, 5, 10, 1}, {4, 4, 9, 1}, {4, 4, 8, 0}, {3, 4, 10, 2},
+                 {0, 4, 8, 99}, {0, 4, 8, 8}, {128, 255, 16777214, 8388607}};
+    struct lent m = lend(&S);
+    for (size_t i = 0; i < sizeof cases / sizeof *cases; i++) {
+        m.words[5] = cases[i].d + S.n;
+        m.words[6] = cases[i].q;
+        CHECK(setup(&m) == 0);
+        m.threads[0] = cases[i].c;
+        CHECK(reading(&m, 0, 0, 0) == 0 && m.three[2] == cases[i].quota);
+        m.threads[2] = (uint32_t)cases[i].quota;
+        CHECK(answers(&m, 0, THROTTLE_QUOTA, 0));
+        m.threads[2]--;
+        CHECK(cases[i].quota == 0 || answers(&m, 0, THROTTLE_OPENED, 0));
+    }
     give_back(&m);
 }
 
@@ -188,7 +215,7 @@ static void order_of_arguments(void)
 
     m.threads[cell] = m.threads[cell + 1] = 28;
     CHECK(reading(&m, FIRST + 1, 2, 4) == 0);
-    CHECK(m.three[0] == 28 && m.three[1] == 56 && m.three[2] == 5);
+    CHECK(m.three[0] == 28 && m.three[1] == 56 && m.three[2] == 6);
     CHECK(request(&m, FIRST + 2, 2, 4, 0xBEEF) == 0 && m.two[0] == THROTTLE_WAIT_BANK);
     CHECK(m.two[1] == FIRST + 5);
     CHECK(done(&m, FIRST + 3, 4, 2) == THROTTLE_OUTSIDE_SETTING);
@@ -215,27 +242,6 @@ static void order_of_seeds(void)
         CHECK(m.counters[i] == (i >= 2 * 2048 && hit));
     }
     give_back(&m);
-}
-
-/* A copy of the state and of out. */
-static struct lent copy(const struct lent *m, const struct throttle_setting *s)
-{
-    struct lent c = lend(s);
-    memcpy(c.head, m->head, THROTTLE_HEAD_CELLS * 8);
-    memcpy(c.counters, m->counters, c.counters_len * 2);
-    memcpy(c.ticks, m->ticks, c.ticks_len * 8);
-    memcpy(c.rows, m->rows, c.rows_len * 4);
-    memcpy(c.threads, m->threads, c.threads_len * 4);
-    return c;
-}
-
-static int same(const struct lent *m, const struct lent *c)
-{
-    return memcmp(m->head, c->head, THROTTLE_HEAD_CELLS * 8) == 0 &&
-           memcmp(m->counters, c->counters, c->counters_len * 2) == 0 &&
-           memcmp(m->ticks, c->ticks, c->ticks_len * 8) == 0 &&
-           memcmp(m->rows, c->rows, c->rows_len * 4) == 0 &&
-           memcmp(m->threads, c->threads, c->threads_len * 4) == 0;
 }
 
 /* Request, done and index are refused with this number and change nothing. */
@@ -382,6 +388,7 @@ int main(void)
     checked_rows();
     published();
     samples();
+    quotas();
     rank_rule();
     order_of_arguments();
     order_of_seeds();

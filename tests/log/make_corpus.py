@@ -17,8 +17,10 @@ sys.dont_write_bytecode = True
 import damaged
 import layout
 import records
+import rounding
 import settings
-from blocks import S, log, record
+from blocks import S, log
+from records import four
 
 # Settings of the faithful logs: a small one with several banks and threads, one of a real chip, and
 # ones with the least window, the most banks, threads and history places.
@@ -46,15 +48,10 @@ class Corpus:
         self.names.add(name)
         (self.directory / f"{name}.log").write_bytes(data)
 
-    def faithful(self, style, seed, count, first, setting, keys=0):
+    def faithful(self, style, seed, count, first, setting, keys=0, more=()):
         """A log in which every record is the rules' own answer; see LOG_MAKER for the arguments."""
-        words = [self.maker, style, *(str(x) for x in (seed, count, first, keys, *setting))]
+        words = [self.maker, style, *(str(x) for x in (seed, count, first, keys, *setting)), *more]
         return subprocess.run(words, check=True, stdout=subprocess.PIPE).stdout
-
-
-def four(wait=7):
-    """The four records of the sample runs."""
-    return [record(0), record(1), record(2, answer=3, wait=wait), record(7)]
 
 
 def samples(corpus):
@@ -96,6 +93,7 @@ def main():
     bases = faithful(corpus)
     settings.add_to(corpus)
     records.add_to(corpus, bases)
+    rounding.add_to(corpus)
     layout.add_to(corpus, log(four()))
     damaged.add_to(corpus, {"four": log(four()), **bases})
     print(f"{len(corpus.names)} logs in {corpus.directory}")

@@ -6,6 +6,18 @@ from blocks import done, field_of, log, record, records_of, with_field
 
 TOP = 2 ** 62
 TWO_BY_TWO = (40, 1, 4, 2, 6, 10, 4, 2, 2)
+# S with Q 3: a counter of 1 gives 2.625, that is 3.
+THREE = (40, 1, 4, 2, 6, 10, 3, 1, 1)
+
+
+def four(wait=7):
+    """The four records of the sample runs; S opens the first two and the last."""
+    return [record(0), record(1), record(2, answer=3, wait=wait), record(7)]
+
+
+def five(**fields):
+    """The four records and a request at tick 8, three in flight. S answers row wait until 13, THREE quota."""
+    return four() + [record(8, **fields)]
 
 
 def pairs(count):
@@ -79,10 +91,10 @@ def in_flight(corpus):
 
 def clock(corpus):
     """A wait, a quota answer and a done move the clock, so that an earlier tick is refused after them."""
-    start = [record(0), record(1), record(2, answer=3, wait=7), record(7), record(8, answer=4), done(9)]
+    start = five(answer=4) + [done(9)]
     for count in range(1, len(start)):
         tick = int.from_bytes(start[count][:8], "little")
-        corpus.add(f"clock-after-{count}", log(start[:count + 1] + [record(tick - 1)]))
+        corpus.add(f"clock-after-{count}", log(start[:count + 1] + [record(tick - 1)], THREE))
 
 
 def history(corpus):
@@ -110,9 +122,8 @@ def counts(corpus):
         corpus.add(f"opened-claims-{answer}-wait-0", log([record(0, answer=answer)]))
     corpus.add("wait-claims-opened", log([record(0), record(0)]))
     corpus.add("opened-claims-wait", log([record(0, wait=1)]))
-    start = [record(0), record(1), record(2, answer=3, wait=7), record(7)]
-    for wait in (0, 1, 9):
-        corpus.add(f"quota-wait-{wait}", log(start + [record(8, answer=4, wait=wait)]))
+    for wait in (0, 1, 9, 13):
+        corpus.add(f"quota-wait-{wait}", log(five(answer=4, wait=wait), THREE))
 
 
 def first_event(corpus):

@@ -5,7 +5,7 @@ use crate::call::Call;
 use crate::contents::{fill_any, fill_near, lent};
 use crate::numbers::Numbers;
 use crate::pair::{Difference, Pair};
-use crate::settings::{at_bounds, large, medium, mixed, odd_seeds, seeds, small};
+use crate::settings::{at_bounds, large, medium, mixed, odd_seeds, seeds, small, THREADS};
 use crate::tally::Tally;
 use crate::walk::Walk;
 use second::{Fault, State};
@@ -108,9 +108,23 @@ fn step(
     tally: &mut Tally,
 ) -> Result<(), Box<Difference>> {
     let head = |pair: &Pair| [pair.memory().head.cells()[0], pair.memory().head.cells()[1]];
-    let before = head(pair);
+    let (before, thread) = (head(pair), thread_cells(pair, call));
     let answer = pair.call(call)?;
     walk.note(call, &answer);
-    tally.note(pair.setting(), call, &answer, before, head(pair));
+    tally.note(pair.setting(), call, &answer, before, head(pair), thread);
     Ok(())
+}
+
+/// The three cells of a call's thread in its bank, zeros where there are none.
+fn thread_cells(pair: &Pair, call: &Call) -> [u64; 3] {
+    let threads = pair.setting()[THREADS];
+    let before = call
+        .bank
+        .saturating_mul(threads)
+        .saturating_add(call.thread);
+    let cells = pair.memory().threads.cells();
+    std::array::from_fn(|k| {
+        let place = before.saturating_mul(3).saturating_add(k as u64);
+        cells.get(place as usize).map_or(0, |&cell| u64::from(cell))
+    })
 }

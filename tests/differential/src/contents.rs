@@ -2,7 +2,7 @@
 //! odd but sound to arbitrary.
 
 use crate::numbers::Numbers;
-use crate::settings::{history, BANKS, L, N, TD, TFAW, THREADS, TRC, W};
+use crate::settings::{history, BANKS, L, N, Q, TD, TFAW, THREADS, TRC, W};
 use second::state::{BANK, LAST, PLACE, RANK};
 use second::State;
 
@@ -173,10 +173,11 @@ fn fill_counters(numbers: &mut Numbers, setting: &[u64; 9], state: &mut State) {
     });
 }
 
-/// Index counters below, at and above D, in flight around Q.
+/// Index counters below, at and above D, in flight around Q; of one thread in
+/// four such that the rounding of its quota decides.
 fn fill_threads(numbers: &mut Numbers, setting: &[u64; 9], state: &mut State) {
     let d = setting[L].min(1 << 24).saturating_sub(setting[N]) as u32;
-    let q = setting[6].min(256) as u32;
+    let q = setting[Q].min(256) as u32;
     let calm = numbers.one_in(2);
     for cells in state.threads.chunks_mut(3) {
         for (k, cell) in cells.iter_mut().enumerate() {
@@ -191,6 +192,23 @@ fn fill_threads(numbers: &mut Numbers, setting: &[u64; 9], state: &mut State) {
                 _ => numbers.within(0, 2) as u32,
             };
         }
+        if numbers.one_in(4) {
+            stand_at_half(numbers, u64::from(q), u64::from(d), cells);
+        }
+    }
+}
+
+/// Index counters at or next to the one where the quota is a whole number and a
+/// half, if there is one, and as many in flight as that number or one more.
+fn stand_at_half(numbers: &mut Numbers, q: u64, d: u64, cells: &mut [u32]) {
+    let whole = numbers.within(0, q.max(1) - 1);
+    let c = d - d * (2 * whole + 1) / (2 * q.max(1));
+    let above = u64::from(numbers.one_in(4));
+    for (k, cell) in cells.iter_mut().enumerate() {
+        *cell = match k {
+            2 => whole + above,
+            _ => numbers.pick(&[c, c, c + 1, c.saturating_sub(1)]),
+        } as u32;
     }
 }
 

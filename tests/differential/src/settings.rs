@@ -12,6 +12,7 @@ pub const TFAW: usize = 2;
 pub const N: usize = 3;
 pub const TD: usize = 4;
 pub const L: usize = 5;
+pub const Q: usize = 6;
 pub const BANKS: usize = 7;
 pub const THREADS: usize = 8;
 

@@ -76,13 +76,28 @@ pub fn index_counter(rules: &Rules, state: &State, call: &Call) -> u64 {
     u64::from(state.threads[cell])
 }
 
-/// floor(Q * (D - min(c, D))/D)
+/// Q * (D - min(c, D))/D, rounded to the nearest whole request, an exact half
+/// to the even one. All numbers of requests are tried.
 pub fn quota(rules: &Rules, c: u64) -> u64 {
     let share = rules.q * (rules.d - c.min(rules.d));
-    if rules.has(Fault::QuotaRoundsUp) {
-        return share.div_ceil(rules.d);
+    let miss = |&requests: &u64| miss(rules, share, requests);
+    (0..=rules.q).min_by_key(miss).unwrap_or(0)
+}
+
+/// How far a number of requests is from share/D, in parts of 1/D, and then
+/// whether it is odd: of two that are equally far the even one is less.
+fn miss(rules: &Rules, share: u64, requests: u64) -> (u64, u64) {
+    let parts = requests * rules.d;
+    let distance = parts.abs_diff(share);
+    match rules.fault {
+        Fault::QuotaRoundsDown if parts > share => (u64::MAX, 0),
+        Fault::QuotaRoundsUp if parts < share => (u64::MAX, 0),
+        Fault::QuotaKeepsOne if requests == 0 && share > 0 => (u64::MAX, 0),
+        Fault::QuotaHalfUp => (distance, rules.q - requests),
+        Fault::QuotaHalfDown => (distance, requests),
+        Fault::QuotaHalfToOdd => (distance, 1 - requests % 2),
+        _ => (distance, requests % 2),
     }
-    share / rules.d
 }
 
 /// Requests of the thread activated in the bank and not yet done.
@@ -226,7 +241,11 @@ fn view<'a>(
 pub fn decide(rules: &Rules, state: &State, call: &Call, row: u16) -> (u64, u64) {
     let activations = activations(rules, state, call.bank, row);
     let view = view(rules, state, call, row, &activations);
-    let quota = quota(rules, index_counter(rules, state, call));
+    let c = index_counter(rules, state, call);
+    let quota = match rules.fault {
+        Fault::RequestRoundsDown => quota(&rules.with(Fault::QuotaRoundsDown), c),
+        _ => quota(rules, c),
+    };
     let flying = in_flight(rules, state, call);
     let held = if rules.has(Fault::QuotaStrict) {
         flying > quota

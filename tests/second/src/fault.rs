@@ -70,8 +70,23 @@ faults! {
     RankLeastOfFour,
     /// The index answers c clipped to D.
     IndexClipped,
+    /// The quota is rounded down, as document 01 has it.
+    QuotaRoundsDown,
     /// The quota is rounded up.
     QuotaRoundsUp,
+    /// The quota is rounded to the nearest, an exact half up.
+    QuotaHalfUp,
+    /// The quota is rounded to the nearest, an exact half down.
+    QuotaHalfDown,
+    /// The quota is rounded to the nearest, an exact half to the odd one.
+    QuotaHalfToOdd,
+    /// The quota is 0 only where c is D or more, else at least 1.
+    QuotaKeepsOne,
+    /// A request is held by the quota rounded down; the index answers it right.
+    RequestRoundsDown,
+    /// The index answers the quota rounded down; a request is held by the right
+    /// one.
+    IndexRoundsDown,
     /// Refusal 7 also compares the oldest history tick with the newest.
     WrapPairIsRise,
     /// Refusal 7 takes two equal history ticks for a rise.

@@ -96,7 +96,11 @@ pub fn index(
     } else {
         c
     };
-    *out = [shown, rules.d, quota(&rules, c)];
+    let quota = match rules.fault {
+        Fault::IndexRoundsDown => quota(&rules.with(Fault::QuotaRoundsDown), c),
+        _ => quota(&rules, c),
+    };
+    *out = [shown, rules.d, quota];
     if let Some(before) = before {
         *state = before;
     }

@@ -58,6 +58,11 @@ impl Rules<'_> {
     pub fn has(&self, fault: Fault) -> bool {
         self.fault == fault
     }
+
+    /// The same setting with another wrong behaviour.
+    pub fn with(self, fault: Fault) -> Self {
+        Rules { fault, ..self }
+    }
 }
 
 /// Function f, bit i: (37(i+1)^2 + 211f + 89if) mod 1,024.

@@ -35,6 +35,13 @@ fn four() -> [Record; 4] {
     ]
 }
 
+/// The four records and a request at tick 8.
+fn five(answer: u8, wait: u64) -> Vec<Record> {
+    let mut records = four().to_vec();
+    records.push(request(8, answer, wait));
+    records
+}
+
 fn log(records: &[Record]) -> Vec<u8> {
     encode(&S, &house_seeds(), records)
 }
@@ -181,12 +188,31 @@ fn opened_counts_what_the_rules_open() {
 }
 
 #[test]
+fn the_request_at_8_waits_for_the_row() {
+    let agrees = "records 5\nopened 3\nagrees\n";
+    let differs = "records 5\nopened 3\ndiffers 1 5\n";
+    let (new, old) = (log(&five(3, 13)), log(&five(4, 0)));
+    assert_eq!(
+        (report(&new).as_str(), report(&old).as_str()),
+        (agrees, differs)
+    );
+    let down = |log: &[u8]| check(log, Fault::QuotaRoundsDown).to_string();
+    assert_eq!(
+        (down(&new).as_str(), down(&old).as_str()),
+        (differs, agrees)
+    );
+}
+
+#[test]
 fn dones_and_quota() {
-    let mut records = four().to_vec();
-    records.extend([request(8, 4, 0), done(9), request(9, 3, 13)]);
-    assert_eq!(report(&log(&records)), "records 7\nopened 3\nagrees\n");
+    let with_q_3 = |records: &[Record]| encode(&s_with(&[(Q, 3)]), &house_seeds(), records);
+    let mut records = five(4, 0);
+    records.extend([done(9), request(9, 3, 13)]);
+    let log_3 = with_q_3(&records);
+    assert_eq!(report(&log_3), "records 7\nopened 3\nagrees\n");
     records[4].wait = 13;
-    assert_eq!(report(&log(&records)), "records 5\nopened 3\ndiffers 1 5\n");
+    let log_3 = with_q_3(&records);
+    assert_eq!(report(&log_3), "records 5\nopened 3\ndiffers 1 5\n");
     for (answer, wait) in [(1, 0), (4, 0), (0, 1)] {
         let done = Record {
             answer,

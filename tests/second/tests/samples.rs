@@ -67,8 +67,18 @@ fn row_5_at_0_1_2_7_8() {
     assert_eq!(throttle.five(1), OPENED);
     assert_eq!(throttle.five(2), wait_row(7));
     assert_eq!(throttle.five(7), OPENED);
-    assert_eq!(throttle.index(7, 0, 0), Ok([1, 8, 3]));
+    assert_eq!(throttle.index(7, 0, 0), Ok([1, 8, 4]));
     assert_eq!(throttle.state.threads[2], 3);
+    assert_eq!(throttle.five(8), wait_row(13));
+}
+
+#[test]
+fn with_q_3_the_request_at_8_is_held() {
+    let mut throttle = Throttle::new(s_with(&[(Q, 3)]));
+    for tick in [0, 1, 7] {
+        assert_eq!(throttle.five(tick), OPENED);
+    }
+    assert_eq!(throttle.index(7, 0, 0), Ok([1, 8, 3]));
     assert_eq!(throttle.five(8), QUOTA);
 }
 

@@ -1,7 +1,8 @@
 //! Writes a faithful log to standard output: requests and dones run through
 //! the rules, each with the answer and the wait tick that they give.
 //!
-//! Arguments: STYLE SEED RECORDS START KEYS W TRC TFAW N TD L Q BANKS THREADS.
+//! Arguments: STYLE SEED RECORDS START KEYS W TRC TFAW N TD L Q BANKS THREADS
+//! and, if the quota is to be rounded down as document 01 has it, `down`.
 //! STYLE is `random` for requests and dones at random ticks around those that
 //! matter, or `controller` for threads that wait as told, of which thread 0
 //! asks for two rows of bank 0 in turn. START is the tick of the first record.
@@ -11,7 +12,7 @@
 use second::decision::{OPENED, QUOTA};
 use second::log::{encode, Record};
 use second::setting::{accept, house_seeds};
-use second::{done, request, Config, State};
+use second::{done, request, Config, Fault, State};
 use std::cmp::Reverse;
 use std::collections::BinaryHeap;
 use std::io::{self, Write};
@@ -38,17 +39,20 @@ impl Numbers {
 struct Logger {
     setting: [u64; 9],
     seeds: Vec<u16>,
+    /// `QuotaRoundsDown` or none.
+    fault: Fault,
     state: State,
     records: Vec<Record>,
 }
 
 impl Logger {
-    fn new(setting: [u64; 9], seeds: Vec<u16>) -> Self {
+    fn new(setting: [u64; 9], seeds: Vec<u16>, fault: Fault) -> Self {
         let rules = accept(&Config::new(setting, &seeds)).expect("the setting is accepted");
         let state = State::cleared(&rules);
         Logger {
             setting,
             seeds,
+            fault,
             state,
             records: Vec::new(),
         }
@@ -56,7 +60,7 @@ impl Logger {
 
     /// Requests a row and notes the answer and the wait tick, which it returns.
     fn request(&mut self, tick: u64, (bank, thread): (u64, u64), row: u16) -> [u64; 2] {
-        let config = Config::new(self.setting, &self.seeds);
+        let config = Config::new(self.setting, &self.seeds).with(self.fault);
         let mut out = [0, 0];
         let refusal = request(&config, &mut self.state, tick, bank, thread, row, &mut out);
         assert_eq!(refusal, 0, "a request at tick {tick}");
@@ -66,7 +70,7 @@ impl Logger {
 
     /// Reports a done, whose row is of no meaning.
     fn done(&mut self, tick: u64, (bank, thread): (u64, u64), row: u16) {
-        let config = Config::new(self.setting, &self.seeds);
+        let config = Config::new(self.setting, &self.seeds).with(self.fault);
         let refusal = done(&config, &mut self.state, tick, bank, thread);
         assert_eq!(refusal, 0, "a done at tick {tick}");
         self.note(tick, [0, 0], row, (bank, thread), 1);
@@ -188,7 +192,13 @@ fn controller(logger: &mut Logger, numbers: &mut Numbers, records: u64, start: u
 }
 
 fn main() -> io::Result<()> {
-    let arguments: Vec<String> = std::env::args().skip(1).collect();
+    let mut arguments: Vec<String> = std::env::args().skip(1).collect();
+    let down = arguments.pop_if(|word| word == "down").is_some();
+    let fault = if down {
+        Fault::QuotaRoundsDown
+    } else {
+        Fault::None
+    };
     let words: Vec<u64> = arguments
         .iter()
         .skip(1)
@@ -203,7 +213,7 @@ fn main() -> io::Result<()> {
         0 => house_seeds(),
         keys => (0..64).map(|_| numbers.below(*keys) as u16).collect(),
     };
-    let mut logger = Logger::new(setting, seeds);
+    let mut logger = Logger::new(setting, seeds, fault);
     match arguments[0].as_str() {
         "random" => random(&mut logger, &mut numbers, *records, *start),
         "controller" => controller(&mut logger, &mut numbers, *records, *start),
