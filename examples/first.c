@@ -31,6 +31,20 @@ static void request(uint64_t tick)
         printf("%s\n", throttle_answer_name(out[0]));
 }
 
+static void read_index(uint64_t tick)
+{
+    uint64_t out[3];
+    if (throttle_index(STATE, tick, 0, 0, out) == THROTTLE_ANSWERED)
+        printf("index at %" PRIu64 ": c %" PRIu64 ", D %" PRIu64 ", quota %" PRIu64 "\n", tick, out[0],
+               out[1], out[2]);
+}
+
+static void finish(uint64_t tick)
+{
+    uint32_t code = throttle_done(STATE, tick, 0, 0);
+    printf("done at %" PRIu64 ": %s\n", tick, throttle_refusal_name(code));
+}
+
 int main(void)
 {
     struct throttle_setting s = {
@@ -44,7 +58,6 @@ int main(void)
         .banks = 1,
         .threads = 1,
     };
-    uint64_t reading[3];
     throttle_house_seeds(seeds); /* for a product: random numbers from 0 to 1,023 */
     throttle_words(&s, setting);
     uint32_t code = throttle_setup(STATE);
@@ -56,11 +69,13 @@ int main(void)
     request(2);
     request(7);
     request(8);
-    if (throttle_index(STATE, 8, 0, 0, reading) == THROTTLE_ANSWERED)
-        printf("index at 8: c %" PRIu64 ", D %" PRIu64 ", quota %" PRIu64 "\n", reading[0],
-               reading[1], reading[2]);
-    printf("done at 8: %s\n", throttle_refusal_name(throttle_done(STATE, 8, 0, 0)));
-    request(8);
+    read_index(8);
+    request(13);
+    request(14);
+    read_index(14);
+    finish(14);
+    finish(14);
+    request(14);
     request(5);
     return 0;
 }

@@ -2,7 +2,7 @@
 use mathlib.Core.Path.{_∙_}
 use native.Mathlib.Omega.{arith}
 use Rattle.rules.proofs.Regular.{quota-most}
-use Rattle.quota.proofs.Index.{share-small, quota-is}
+use Rattle.quota.proofs.Product.{share-small, quota-is}
 use borrow.Author.Needs.{needs}
 use Rattle.quota.proofs.share.Statement.{statement}
 use Rattle.quota.proofs.share.Tie as tie

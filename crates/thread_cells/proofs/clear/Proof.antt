@@ -1,10 +1,10 @@
--- `quota::clear`. The loop's invariant: the cells passed are 0 and the others are as they were.
+-- `thread_cells::clear`. The loop's invariant: the cells passed are 0 and the others are as they were.
 use Prim.Native.Nat.{_-_}
 use native.Mathlib.Omega.{arith}
 use Rattle.rules.proofs.Clearing.{Cleared, cleared-all, first, first-none, first-more}
 use borrow.Author.Needs.{needs}
-use Rattle.quota.proofs.clear.Statement.{statement}
-use Rattle.quota.proofs.clear.Tie as tie
+use Rattle.thread_cells.proofs.clear.Statement.{statement}
+use Rattle.thread_cells.proofs.clear.Tie as tie
 
 abbrev Inv-loop : tie.InvT-loop
 Inv-loop threads₀ used i₀ threads i = Cleared first used threads₀ i threads

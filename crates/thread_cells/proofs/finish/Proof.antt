@@ -1,9 +1,9 @@
--- `quota::finish`: the cell is the thread's in flight in that bank.
+-- `thread_cells::finish`: the cell is the thread's in flight in that bank.
 use native.Mathlib.Omega.{arith}
-use Rattle.quota.proofs.Index.{held-at, finished-is}
+use Rattle.thread_cells.proofs.Index.{held-at, finished-is}
 use borrow.Author.Needs.{needs}
-use Rattle.quota.proofs.finish.Statement.{statement}
-use Rattle.quota.proofs.finish.Tie as tie
+use Rattle.thread_cells.proofs.finish.Statement.{statement}
+use Rattle.thread_cells.proofs.finish.Tie as tie
 
 cell-requires : tie.Need-cell-requires
 cell-requires c κs = search needs

@@ -1,13 +1,13 @@
--- `quota::turn`: no epoch, one epoch, or two and more have passed.
+-- `thread_cells::turn`: no epoch, one epoch, or two and more have passed.
 use Prim.Native.Nat.{_/_}
 use mathlib.Core.Path.{ap, _∙_}
 use native.Mathlib.Omega.{arith}
 use Rattle.rules.specs.Cells.{clearCells}
-use Rattle.quota.specs.Kinds.{kindBelow}
-use Rattle.quota.proofs.Turns.{turned-none, turned-one, turned-both}
+use Rattle.thread_cells.specs.Kinds.{kindBelow}
+use Rattle.thread_cells.proofs.Turns.{turned-none, turned-one, turned-both}
 use borrow.Author.Needs.{needs}
-use Rattle.quota.proofs.turn.Statement.{statement}
-use Rattle.quota.proofs.turn.Tie as tie
+use Rattle.thread_cells.proofs.turn.Statement.{statement}
+use Rattle.thread_cells.proofs.turn.Tie as tie
 
 returns : tie.Need-returns
 returns c = turned-none (c .before .before .args .used) (c .before .before .args .from) (c .before .before .args .to) (c .before .before .args .threads .now) (c .if1 .taken)

@@ -1,8 +1,8 @@
--- A thread's cells, the quota, and the activation.
+-- A thread's cells, and what an activation and a done change of them.
 use mathlib.Core.Path.{_≡_, ap}
 use mathlib.Core.List.{List}
 use mathlib.Core.Bool.{true, false}
-use Prim.Native.Nat.{ℕ, _+_, _-_, _*_, _^_, _≤_, _<_, min}
+use Prim.Native.Nat.{ℕ, _+_, _-_, _*_, _≤_, _<_}
 use native.Mathlib.Omega.{arith}
 use native.Mathlib.Nat.{mul-le-mul}
 use lib.ListN.{getD, set}
@@ -10,7 +10,6 @@ use Rattle.rules.specs.declared.Setting.{Setting}
 use Rattle.rules.specs.Setting.{indexScale}
 use Rattle.rules.specs.State.{threadCell}
 use Rattle.rules.specs.Filter.{raised}
-use Rattle.rules.specs.Quota.{halfEven, quotaEven}
 use Rattle.rules.specs.Decision.{activatedThreads}
 
 -- the k-th cell from the first
@@ -20,15 +19,6 @@ cell-at s bank thread at k e = omega arith
 -- the place of a thread's group is small
 pub group-small : (s : Setting) (bank : ℕ) → bank < s .banks → s .banks ≤ 16 → s .threads ≤ 32 → bank * s .threads ≤ 16 * 32
 group-small s bank hb h k = mul-le-mul {n₂ = 16} {m₂ = 32} (omega arith) k
-
--- the quota's product fits 32 bits
-pub share-small : (q left : ℕ) → q ≤ 255 → left ≤ 2 ^ 24 → q * left ≤ 255 * 2 ^ 24
-share-small q left h k = mul-le-mul {n₂ = 255} {m₂ = 16777216} h k
-
--- with what is left of the full scale as `remaining` gives it
-pub quota-is : (s : Setting) (c left : ℕ) → left ≡ indexScale s - min c (indexScale s) → halfEven (s .q * left) (indexScale s) ≡ quotaEven s c
-unfolding quotaEven
-quota-is s c left e = rw e
 
 -- what a thread's cell holds, by its place from the first
 pub held-at : (s : Setting) (ts : List ℕ) (bank thread at k : ℕ) → at ≡ threadCell s bank thread 0

@@ -1,13 +1,13 @@
--- `quota::cell`: the place of the group is below the number of groups.
+-- `thread_cells::cell`: the place of the group is below the number of groups.
 use Prim.Native.Nat.{_+_, _*_, _≤_}
 use mathlib.Core.Path.{sym}
 use native.Mathlib.Omega.{arith}
 use native.Mathlib.Nat.{add-zero}
 use Rattle.rules.proofs.Cells.{thread-in}
-use Rattle.quota.proofs.Index.{group-small}
+use Rattle.thread_cells.proofs.Index.{group-small}
 use borrow.Author.Needs.{needs}
-use Rattle.quota.proofs.cell.Statement.{statement}
-use Rattle.quota.proofs.cell.Tie as tie
+use Rattle.thread_cells.proofs.cell.Statement.{statement}
+use Rattle.thread_cells.proofs.cell.Tie as tie
 
 small : (c : tie.After-struct-known) → c .before .args .bank * c .before .args .s .threads ≤ 16 * 32
 small c = group-small (c .before .args .s) (c .before .args .bank) (search needs) (search needs) (search needs)
