@@ -6,8 +6,9 @@ use native.Mathlib.Omega.{arith}
 use native.Mathlib.Nat.{zero-add}
 use lib.ListN.{getD, take, drop}
 use lib.Seq.{getD-take, getD-drop}
+use borrow.Author.Tests.{eq-eqb, ne-eqb}
 use Rattle.rules.specs.State.{counterCell}
-use Rattle.rules.specs.Filter.{Within, estimate}
+use Rattle.rules.specs.Filter.{Within, two, estimate}
 
 -- the least of the four counters, as the code reads them in the part; the part is that of a bank 0
 pub estimate-part : (cs : List ℕ) (f : ℕ) (at : List ℕ) (x y r : ℕ)
@@ -31,3 +32,11 @@ pub part-estimate : (cs : List ℕ) (start b f : ℕ) (at : List ℕ) → start 
 unfolding estimate
 part-estimate cs start b f at e hf w =
     rw (part-counter cs start b f (getD at 0 0) e hf (w .first), part-counter cs start b f (getD at 1 0) e hf (w .second), part-counter cs start b f (getD at 2 0) e hf (w .third), part-counter cs start b f (getD at 3 0) e hf (w .fourth))
+
+-- ---- the places of the filter that is asked for
+
+pub pick-first : (cs : List ℕ) (bank f : ℕ) (at other : List ℕ) (r : ℕ) → f ≡ 0 → r ≡ estimate cs bank f at → r ≡ estimate cs bank f (two at other f)
+pick-first cs bank f at other r h e = rw (eq-eqb f 0 h) e
+
+pub pick-second : (cs : List ℕ) (bank f : ℕ) (at other : List ℕ) (r : ℕ) → (f ≡ 0 → ⊥) → r ≡ estimate cs bank f other → r ≡ estimate cs bank f (two at other f)
+pick-second cs bank f at other r h e = rw (ne-eqb f 0 h) e

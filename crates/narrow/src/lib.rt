@@ -113,6 +113,6 @@ pub fn activate(
     requires { ⌜ Ready s h (now ticks) (now rows) (now threads) bank thread × (countersUsed s ≤ length (now counters)) × Within first × Within second × (s .n < 65536) × (getD (now threads) (threadCell s bank thread 2) 0 < 255) × (black ≡ blacklisted (s .n) (activeEstimate s (two first second) (state h (now counters) (now ticks) (now rows) (now threads)) bank)) ⌝ }
     ensures { λ r. ⌜ state r (now (counters .exit)) (now (ticks .exit)) (now (rows .exit)) (now (threads .exit)) ≡ activated s (two first second) (state h (now (counters .entry)) (now (ticks .entry)) (now (rows .entry)) (now (threads .entry))) bank thread row ⌝ }
 {
-    filter::count(counters, bank as usize, first, second, s.n as u16);
+    filter_count::count(counters, bank as usize, first, second, s.n as u16);
     state::activate(s, h, ticks, rows, threads, bank, thread, row, black)
 }

@@ -1,5 +1,5 @@
 -- `filter::bank_estimate` meets its contract: the estimate with the places of the filter that is asked for.
-use Rattle.filter.proofs.Counting.{pick-first, pick-second}
+use Rattle.filter.proofs.Parts.{pick-first, pick-second}
 use borrow.Author.Needs.{needs}
 use Rattle.filter.proofs.bank_estimate.Statement.{statement}
 use Rattle.filter.proofs.bank_estimate.Tie as tie

@@ -1,8 +1,8 @@
--- `filter::count` meets its contract: what filter 0 and then filter 1 gain is what the rules count.
-use Rattle.filter.proofs.Counting.{counted-row}
+-- `filter_count::count` meets its contract: what filter 0 and then filter 1 gain is what the rules count.
+use Rattle.filter_count.proofs.Counting.{counted-row}
 use borrow.Author.Needs.{needs}
-use Rattle.filter.proofs.count.Statement.{statement}
-use Rattle.filter.proofs.count.Tie as tie
+use Rattle.filter_count.proofs.count.Statement.{statement}
+use Rattle.filter_count.proofs.count.Tie as tie
 
 count-in-requires : tie.Need-count-in-requires
 count-in-requires c κs = search needs

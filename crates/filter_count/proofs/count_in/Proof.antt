@@ -1,10 +1,10 @@
--- `filter::count_in` meets its contract: four stores of what the cells held, raised. Args.t4 is the parameter at.
+-- `filter_count::count_in` meets its contract: four stores of what the cells held, raised. Args.t4 is the parameter at.
 use native.Mathlib.Omega.{arith}
 use lib.ListN.{length-set}
-use Rattle.filter.proofs.Counting.{row-raised}
+use Rattle.filter_count.proofs.Counting.{row-raised}
 use borrow.Author.Needs.{needs}
-use Rattle.filter.proofs.count_in.Statement.{statement}
-use Rattle.filter.proofs.count_in.Tie as tie
+use Rattle.filter_count.proofs.count_in.Statement.{statement}
+use Rattle.filter_count.proofs.count_in.Tie as tie
 
 -- the four stores against the rules; what follows are the bounds of sums and indices
 returns : tie.Need-returns

@@ -11,10 +11,10 @@ use lib.ListN.{length, getD, set}
 use borrow.Author.Tests.{eq-eqb, ne-eqb}
 use Rattle.rules.specs.Cells.{member, All}
 use Rattle.rules.specs.State.{counterCell}
-use Rattle.rules.specs.Filter.{Within, two, counterAt, estimate, raised, named, counted}
+use Rattle.rules.specs.Filter.{Within, two, counterAt, raised, named, counted}
 use Rattle.rules.proofs.Tests.{or-e}
 use Rattle.rules.proofs.Cells.{map-same, map-map, store-map}
-use Rattle.filter.specs.Changes.{raisedAt}
+use Rattle.filter_count.specs.Changes.{raisedAt}
 
 -- ---- the counters of a list of cells
 
@@ -102,11 +102,3 @@ pub counted-row : (n bank : ℕ) (at other cs m z : List ℕ) → length at ≡ 
     → m ≡ raisedAt n (map (counterCell bank 0) at) cs → z ≡ raisedAt n (map (counterCell bank 1) other) m → z ≡ counted n bank (two at other) cs
 counted-row n bank at other cs m z four w four′ w′ em ez =
     ez ∙ ap (λ l. raisedAt n (map (counterCell bank 1) other) l) em ∙ counted-both n bank (two at other) cs (within-all at four w) (within-all other four′ w′)
-
--- ---- the places of the filter that is asked for
-
-pub pick-first : (cs : List ℕ) (bank f : ℕ) (at other : List ℕ) (r : ℕ) → f ≡ 0 → r ≡ estimate cs bank f at → r ≡ estimate cs bank f (two at other f)
-pick-first cs bank f at other r h e = rw (eq-eqb f 0 h) e
-
-pub pick-second : (cs : List ℕ) (bank f : ℕ) (at other : List ℕ) (r : ℕ) → (f ≡ 0 → ⊥) → r ≡ estimate cs bank f other → r ≡ estimate cs bank f (two at other f)
-pick-second cs bank f at other r h e = rw (ne-eqb f 0 h) e
