@@ -49,7 +49,7 @@ class Corpus:
         (self.directory / f"{name}.log").write_bytes(data)
 
     def faithful(self, style, seed, count, first, setting, keys=0, more=()):
-        """A log in which every record is the rules' own answer; see LOG_MAKER for the arguments."""
+        """A log in which every record is the rules' own answer, or with `down` that of the quota rounded down; see LOG_MAKER."""
         words = [self.maker, style, *(str(x) for x in (seed, count, first, keys, *setting)), *more]
         return subprocess.run(words, check=True, stdout=subprocess.PIPE).stdout
 

@@ -3,7 +3,7 @@
 from blocks import S, done, log, record
 from records import five
 
-# Q, D and the counter c at which Q × (D − c)/D has this value.
+# Q, D and the counter c at which Q × (D − c)/D has this value, to one place.
 VALUES = {
     "0.4": (3, 8, 7), "0.5": (1, 8, 4), "0.6": (1, 8, 3), "1.5": (3, 8, 4), "2.5": (4, 8, 3), "3.2": (4, 10, 2),
     "3.5": (4, 8, 1), "3.6": (4, 9, 1), "4.5": (5, 10, 1),

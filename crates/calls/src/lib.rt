@@ -103,7 +103,7 @@ pub fn done(
 {
     let x = turn(s, h, counters, threads, tick);
     let head = x.head;
-    thread_cells::finish(threads, s, bank, thread);
+    thread_counters::finish(threads, s, bank, thread);
     head
 }
 
@@ -130,7 +130,7 @@ pub fn index(
     let x = turn(s, h, counters, threads, tick);
     let head = x.head;
     let f = (x.epoch % 2) as usize;
-    let cell = thread_cells::cell(s, bank, thread);
+    let cell = thread_counters::cell(s, bank, thread);
     let c = threads[cell + f];
     let quota = quota::quota(s, c);
     Shown {

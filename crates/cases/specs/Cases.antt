@@ -1,4 +1,4 @@
--- The cases of document 01 marked (p), and the published numbers of BlockHammer: runs under setting S, and one table with a joint statement.
+-- The cases of document 01 marked (p), and the published numbers of BlockHammer: runs under setting S, and the lines that no request has changed.
 use mathlib.Core.Path.{_≡_}
 use mathlib.Core.List.{List, [], _∷_, _++_, map}
 use Prim.Native.Nat.{ℕ}
@@ -8,7 +8,7 @@ use Rattle.rules.specs.Setting.{historyLength, rowBound, settingRefusal}
 use Rattle.rules.specs.State.{State, headOf, fresh, threadCell}
 use Rattle.rules.specs.Hash.{hash, places}
 use Rattle.rules.specs.Filter.{counted}
-use Rattle.rules.specs.Policy.{Policy, limits01, document01, narrow}
+use Rattle.rules.specs.Policy.{Policy, limits01}
 use Rattle.rules.specs.Calls.{Call, request, done, index, Reply, refused, answered, finished, shown, setupRefusal, replies, after}
 use Rattle.rules.specs.Samples.{house, settingS, S, tableOne}
 
@@ -71,9 +71,8 @@ pub record Numbers : Type 0 where
   pub published : settingRefusal limits01 (tableOne 8192 31065 16384) house ≡ aboveLimit
   pub half : settingRefusal limits01 (tableOne 4096 31065 16384) house ≡ none
 
--- all cases that no request has changed, for a policy
+-- the runs that no request has changed, by the rules of a policy
 pub record Cases (p : Policy) : Type 0 where
-  pub numbers : Numbers
   -- "S, each done reported before the next: 18, 19, 37 opened; at 38 wait row until 40, the epoch turn, not 43."
   pub ticks18-38 : run p (ask 18 ∷ over 18 ∷ ask 19 ∷ over 19 ∷ ask 37 ∷ over 37 ∷ ask 38 ∷ []) ≡ opened ∷ finish ∷ opened ∷ finish ∷ opened ∷ finish ∷ waitRow 40 ∷ []
   -- "S, 18, 19 opened; at 21 wait row until 25."
@@ -92,11 +91,3 @@ toTick8 = toTick7 ++ (index 7 0 0 ∷ ask 8 ∷ [])
 -- how many are in flight after tick 7
 abbrev pub flying : Policy → ℕ
 flying p = getD (after p S house (fresh S before) toTick7 .threads) (threadCell S 0 0 2) 0
-
--- The whole table, of document 01's rules and of those in force. The line with tick 8 is document 01's; the one of the rules in force stands in Rounding.antt.
-pub record Tables : Type 0 where
-  pub oldCases : Cases document01
-  pub newCases : Cases narrow
-  -- "S, row 5 at ticks 0, 1, 2: opened, opened, wait row until 7. At 7: opened; quota now 3, three in flight, so at 8: quota."
-  pub tick8 : run document01 toTick8 ≡ opened ∷ opened ∷ waitRow 7 ∷ opened ∷ (0 ∷ 1 ∷ 8 ∷ 3 ∷ []) ∷ (0 ∷ 4 ∷ 0 ∷ []) ∷ []
-  pub three : flying document01 ≡ 3

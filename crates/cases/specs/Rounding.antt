@@ -1,6 +1,6 @@
 -- The cases of document 02, d: quotas at an exact half, and lists of records before and after the change of rounding.
 use mathlib.Core.Path.{_≡_}
-use mathlib.Core.List.{List, [], _∷_, map}
+use mathlib.Core.List.{List, [], _∷_, _++_, map}
 use Prim.Native.Nat.{ℕ}
 use Rattle.rules.specs.Answers.{none}
 use Rattle.rules.specs.Setting.{indexScale, settingRefusal}
@@ -9,22 +9,19 @@ use Rattle.rules.specs.Policy.{Policy, limits01, document01, narrow}
 use Rattle.rules.specs.Samples.{house, settingS, S}
 use Rattle.log_format.specs.declared.Entry.{Entry}
 use Rattle.log_format.specs.Verdict.{agrees, differs, Verdict, judged, Running, setUp, judgeRecords, verdictOf}
+use Rattle.log_samples.specs.Samples.{asks}
 use Rattle.cases.specs.Cases.{before, run, opened, waitRow, toTick8, flying}
 
--- a request of row 5 under S, with the answer and the wait tick that the log claims
-abbrev pub asked : ℕ → ℕ → ℕ → Entry
-asked tick answer wait = record { tick = tick; wait = wait; row = 5; bank = 0; thread = 0; kind = 0; answer = answer }
-
--- the verdict of a log whose block 1 holds these records, under S and a policy
+-- what is judged of these records as those of block 1, after set-up with S, under a policy
 abbrev pub judgedRecords : Policy → List Entry → Verdict
 judgedRecords p es = verdictOf (judgeRecords p (setUp S house before) es) (λ (y : Running). judged (y .progress .records) (y .progress .opened) agrees)
 
 -- the requests at ticks 0, 1, 2 and 7 as both roundings decide them, and what the old one says at tick 8
 abbrev pub four : List Entry
-four = asked 0 0 0 ∷ asked 1 0 0 ∷ asked 2 3 7 ∷ asked 7 0 0 ∷ []
+four = asks 0 0 0 ∷ asks 1 0 0 ∷ asks 2 3 7 ∷ asks 7 0 0 ∷ []
 
 abbrev pub five : List Entry
-five = asked 0 0 0 ∷ asked 1 0 0 ∷ asked 2 3 7 ∷ asked 7 0 0 ∷ asked 8 4 0 ∷ []
+five = four ++ (asks 8 4 0 ∷ [])
 
 pub record Rounded : Type 0 where
   -- "In setting S a counter of 1 gives 4 × 7/8 = 3.5, so the quota is 4 and the request at tick 8 becomes a row wait until 13."
@@ -34,9 +31,11 @@ pub record Rounded : Type 0 where
   pub half4 : (settingRefusal limits01 (settingS 12 5) house ≡ none) × (indexScale (settingS 12 5) ≡ 10) × (quotaEven (settingS 12 5) 1 ≡ 4)
   -- Q 1 and D 8 are accepted, and 0.5 gives 0: the quota is 0 before c reaches D
   pub half0 : (settingRefusal limits01 (settingS 10 1) house ≡ none) × (indexScale (settingS 10 1) ≡ 8) × (quotaEven (settingS 10 1) 4 ≡ 0)
+  -- Q 1 and D 8, the counter from 0 to 8
   pub even1 : map (quotaEven (settingS 10 1)) (0 ∷ 1 ∷ 2 ∷ 3 ∷ 4 ∷ 5 ∷ 6 ∷ 7 ∷ 8 ∷ []) ≡ 1 ∷ 1 ∷ 1 ∷ 1 ∷ 0 ∷ 0 ∷ 0 ∷ 0 ∷ 0 ∷ []
   -- S, the counter from 0 to 8: 4, 3.5, 3, 2.5, 2, 1.5, 1, 0.5, 0
   pub evenS : map (quotaEven S) (0 ∷ 1 ∷ 2 ∷ 3 ∷ 4 ∷ 5 ∷ 6 ∷ 7 ∷ 8 ∷ []) ≡ 4 ∷ 4 ∷ 3 ∷ 2 ∷ 2 ∷ 2 ∷ 1 ∷ 0 ∷ 0 ∷ []
+  -- the same rounded down
   pub downS : map (quotaDown S) (0 ∷ 1 ∷ 2 ∷ 3 ∷ 4 ∷ 5 ∷ 6 ∷ 7 ∷ 8 ∷ []) ≡ 4 ∷ 3 ∷ 3 ∷ 2 ∷ 2 ∷ 1 ∷ 1 ∷ 0 ∷ 0 ∷ []
   -- Q 7 and D 10, the counter from 1 to 5: 6.3, 5.6, 4.9, 4.2, 3.5
   pub even7 : map (quotaEven (settingS 12 7)) (1 ∷ 2 ∷ 3 ∷ 4 ∷ 5 ∷ []) ≡ 6 ∷ 6 ∷ 5 ∷ 4 ∷ 4 ∷ []

@@ -1,6 +1,6 @@
 -- A log that agrees under one policy, judged by another one with the same limits.
 use mathlib.Core.Path.{_≡_, refl, sym, ap, _∙_, subst}
-use mathlib.Core.Logic.{_≢_}
+use mathlib.Core.Logic.{_≢_, _⊎_, inl, inr}
 use mathlib.Core.List.{List, [], _∷_, _++_}
 use mathlib.Core.Bool.{Bool, true, false}
 use Prim.Native.Nat.{ℕ, _+_}
@@ -17,9 +17,9 @@ use Rattle.log_format.specs.Verdict.{agrees, judged, claims, memory, verdict}
 use Rattle.log_format.specs.Claims.{callsOf, recordsOf, settingOfLog, seedsOfLog, laterOf, rulesOpen, Decision, Decided, Faithful}
 use Rattle.log_format.proofs.Records.{claims-true, true-claims, DecidedFrom, decided-append}
 use Rattle.log_format.proofs.Agrees.{only-if, whenever}
-use Rattle.policies.specs.Claims.{differsAt, saidOf, openedOf, FirstApart, Becomes, AfterChange, roundedDown, roundedEven, AfterRounding, SinceDocument01}
+use Rattle.policies.specs.Claims.{saidOf, differsAfter, FirstDifferent, Becomes, AfterChange, roundedDown, roundedEven, AfterRounding, SinceDocument01}
 use Rattle.policies.proofs.Lists.{same-first, same-others, same-cons}
-use Rattle.policies.proofs.Differs.{replyAfter, replies-last, differs-at-first}
+use Rattle.policies.proofs.Differs.{replies-last, differs-at-first}
 use Rattle.policies.proofs.Same.{step-state, after-same, never-refuses, decided-same}
 
 false-true : false ≡ true → ⊥
@@ -51,7 +51,7 @@ module _ (p other : Policy) where
   abbrev q : Policy
   q = withLimits other (p .limits)
 
-  -- ---- none on which they decide differently: they reply alike to all
+  -- ---- the first record on which they decide differently
 
   module _ (s : Setting) (seeds : List ℕ) where
     -- e is the first of these records, from this state on, on which they decide differently
@@ -60,8 +60,11 @@ module _ (p other : Policy) where
         (replies q s seeds st (callsOf before) ≡ replies p s seeds st (callsOf before))
         × (replies q s seeds st (callsOf (before ++ (e ∷ []))) ≢ replies p s seeds st (callsOf (before ++ (e ∷ []))))
 
-    abbrev NoneApart : State → List Entry → Type 0
-    NoneApart st es = (before rest : List Entry) (e : Entry) → es ≡ before ++ (e ∷ rest) → Apart st before e → ⊥
+    -- they reply alike to all of these records, or there is a first one on which they decide differently
+    abbrev AlikeOrApart : State → List Entry → Type 0
+    AlikeOrApart st es =
+        (replies q s seeds st (callsOf es) ≡ replies p s seeds st (callsOf es))
+        ⊎ ((before : List Entry) × (e : Entry) × (rest : List Entry) × (es ≡ before ++ (e ∷ rest)) × Apart st before e)
 
     -- one more record before, to which they reply alike
     apart-more : (st : State) (b : Entry) (before : List Entry) (e : Entry)
@@ -77,10 +80,9 @@ module _ (p other : Policy) where
           λ x. a .1 (sym (from (before ++ (e ∷ []))) ∙ same-others (oq .reply) (op .reply) _ _ x),
         )
 
-    alike : (st : State) (es : List Entry) → DecidedFrom p s seeds st es → NoneApart st es
-        → replies q s seeds st (callsOf es) ≡ replies p s seeds st (callsOf es)
-    alike st [] d none = refl
-    alike st (e ∷ es) d none = go (decides e (oq .reply)) (alike (op .state) es (d .1))
+    alike-or-apart : (st : State) (es : List Entry) → DecidedFrom p s seeds st es → AlikeOrApart st es
+    alike-or-apart st [] d = inl refl
+    alike-or-apart st (e ∷ es) d = go (decides e (oq .reply)) (alike-or-apart (op .state) es (d .1))
       where
         oq : Outcome
         oq = step q s seeds st (callOf e)
@@ -88,21 +90,20 @@ module _ (p other : Policy) where
         op : Outcome
         op = step p s seeds st (callOf e)
 
-        go : Decides e (oq .reply)
-            → (NoneApart (op .state) es → replies q s seeds (op .state) (callsOf es) ≡ replies p s seeds (op .state) (callsOf es))
-            → replies q s seeds st (callsOf (e ∷ es)) ≡ replies p s seeds st (callsOf (e ∷ es))
-        go (it-is d′) ih =
+        go : Decides e (oq .reply) → AlikeOrApart (op .state) es → AlikeOrApart st (e ∷ es)
+        go (it-is d′) (inl alike) =
             let h = decided-same p other s seeds st e (d .0) d′ in
-            same-cons (oq .reply) (op .reply) _ _ h
-            (ap (λ (z : State). replies q s seeds z (callsOf es)) (step-state p other s seeds st (callOf e) h)
-            ∙ ih (λ before rest f x a. none (e ∷ before) rest f (ap (λ (z : List Entry). e ∷ z) x) (apart-more st e before f h a)))
-        go (it-is-not n) ih =
-            absurd (none [] es e refl (refl, λ x. n (subst (Decision e) (sym (same-first (oq .reply) (op .reply) [] [] x)) (d .0))))
+            inl (same-cons (oq .reply) (op .reply) _ _ h (ap (λ (z : State). replies q s seeds z (callsOf es)) (step-state p other s seeds st (callOf e) h) ∙ alike))
+        go (it-is d′) (inr (before, f, rest, x, a)) =
+            let h = decided-same p other s seeds st e (d .0) d′ in
+            inr (e ∷ before, f, rest, ap (λ (z : List Entry). e ∷ z) x, apart-more st e before f h a)
+        go (it-is-not n) found =
+            inr ([], e, es, refl, (refl, λ x. n (subst (Decision e) (sym (same-first (oq .reply) (op .reply) [] [] x)) (d .0))))
 
   -- ---- the log
 
   becomes : (bytes : List ℕ) (r o : ℕ) → verdict p bytes ≡ judged r o agrees → Becomes p q bytes r o
-  becomes bytes r o h = record { differing = differing; agreeing = agreeing }
+  becomes bytes r o h = record { differing = differing; agreeing = λ none. decided none found-or-not; either = either found-or-not }
     where
       s : Setting
       s = settingOfLog bytes
@@ -121,8 +122,8 @@ module _ (p other : Policy) where
       f : Faithful p bytes
       f = found .0
 
-      differing : (before rest : List Entry) (e : Entry) → recordsOf bytes ≡ before ++ (e ∷ rest) → FirstApart p q bytes before e
-          → verdict q bytes ≡ judged (length before + 1) (openedOf q bytes (before ++ (e ∷ []))) (differsAt 1 (laterOf bytes) (length before))
+      differing : (before rest : List Entry) (e : Entry) → recordsOf bytes ≡ before ++ (e ∷ rest) → FirstDifferent p q bytes before e
+          → verdict q bytes ≡ differsAfter q bytes before e
       differing before rest e k a =
           let d = decided-append p s seeds st before (e ∷ rest) .0 (subst (DecidedFrom p s seeds st) k (f .decided)) in
           let here = after p s seeds st (callsOf before) in
@@ -137,14 +138,25 @@ module _ (p other : Policy) where
           (never-refuses p other s seeds here e (d .1 .0))
           (λ d′. apart (decided-same p other s seeds here e (d .1 .0) d′))
 
-      agreeing : ((before rest : List Entry) (e : Entry) → recordsOf bytes ≡ before ++ (e ∷ rest) → FirstApart p q bytes before e → ⊥)
-          → verdict q bytes ≡ judged r o agrees
-      agreeing none =
-          let same : saidOf q bytes (recordsOf bytes) ≡ saidOf p bytes (recordsOf bytes) =
-          alike s seeds st (recordsOf bytes) (f .decided) (λ before rest e k a. none before rest e k (record { alike = a .0; apart = a .1 })) in
+      found-or-not : AlikeOrApart s seeds st (recordsOf bytes)
+      found-or-not = alike-or-apart s seeds st (recordsOf bytes) (f .decided)
+
+      agreeing : saidOf q bytes (recordsOf bytes) ≡ saidOf p bytes (recordsOf bytes) → verdict q bytes ≡ judged r o agrees
+      agreeing same =
           whenever q bytes (record { wellFormed = f .wellFormed; accepted = f .accepted; decided = subst (Decided (recordsOf bytes)) (sym same) (f .decided) })
           ∙ ap (λ (rs : List Reply). judged (length (recordsOf bytes)) (length (activations (callsOf (recordsOf bytes)) rs)) agrees) same
           ∙ counts-same _ _ _ _ (found .1) (found .2)
+
+      decided : ((before rest : List Entry) (e : Entry) → recordsOf bytes ≡ before ++ (e ∷ rest) → FirstDifferent p q bytes before e → ⊥)
+          → AlikeOrApart s seeds st (recordsOf bytes) → verdict q bytes ≡ judged r o agrees
+      decided none (inl same) = agreeing same
+      decided none (inr (before, e, rest, x, a)) = absurd (none before rest e x (record { alike = a .0; apart = a .1 }))
+
+      either : AlikeOrApart s seeds st (recordsOf bytes)
+          → (verdict q bytes ≡ judged r o agrees)
+          ⊎ ((before : List Entry) × (e : Entry) × (rest : List Entry) × (recordsOf bytes ≡ before ++ (e ∷ rest)) × FirstDifferent p q bytes before e)
+      either (inl same) = inl (agreeing same)
+      either (inr (before, e, rest, x, a)) = inr (before, e, rest, x, record { alike = a .0; apart = a .1 })
 
 -- a policy is what it is at its own limits
 own-limits : (p q : Policy) → p .limits ≡ q .limits → withLimits q (p .limits) ≡ q

@@ -5,17 +5,16 @@ use mathlib.Core.Logic.{_≢_}
 use mathlib.Core.Bool.{Bool, true, false, cond}
 use Prim.Native.Nat.{ℕ, _+_, _-_, _≤_, _<_}
 use native.Mathlib.Omega.{arith}
-use lib.Dec.{ltb}
 use lib.ListN.{length, length-append}
 use borrow.Author.Tests.{ne-eqb, lt-ltb, le-ltb}
 use Rattle.rules.specs.declared.Setting.{Setting}
 use Rattle.rules.specs.Answers.{Refusal}
 use Rattle.rules.specs.State.{State, fresh}
 use Rattle.rules.specs.Policy.{Policy}
-use Rattle.rules.specs.Calls.{Reply, refused, answered, finished, shown, Outcome, replies, after, activations}
+use Rattle.rules.specs.Calls.{Reply, refused, answered, finished, shown, replies, after}
 use Rattle.log_format.specs.declared.Entry.{Entry}
 use Rattle.log_format.specs.Contents.{countIn, entriesIn}
-use Rattle.log_format.specs.Verdict.{Ending, differs, Verdict, judged, Running, Step, over, on, claims, openedBy, counted, differsHere, judgeReply, judgeRecord, andThen, judgeRecords, memory, nextBlock, noneCounted, setUp, judgeLater, judgeSound, judgeBlock, verdictOf, judgeBlocks}
+use Rattle.log_format.specs.Verdict.{Ending, differs, Verdict, judged, Running, Step, over, claims, counted, differsHere, judgeReply, judgeRecord, andThen, judgeRecords, memory, noneCounted, setUp, judgeLater, judgeSound, judgeBlock, verdictOf, judgeBlocks}
 use Rattle.log_format.specs.Claims.{callsOf, entriesOf, settingOfLog, seedsOfLog, laterOf, Decision, SoundFrom}
 use Rattle.log_format.proofs.Records.{true-claims, reply-on, outcomeOf, advanced, DecidedFrom, openIn, Counts, counts, decided-append, open-append}
 use Rattle.log_format.proofs.Judged.{length-entries, block-sound, afterBlock, later-on, Next, next}
@@ -24,7 +23,7 @@ use Rattle.policies.specs.Claims.{differsAt, DiffersAtFirst}
 use Rattle.policies.proofs.Lists.{last-same, never-empty, Stands, first, later, stands}
 
 -- a reply that is no refusal and not what the record claims
-pub record Wrong (e : Entry) (r : Reply) : Type 0 where
+record Wrong (e : Entry) (r : Reply) : Type 0 where
   pub answers : (n : Refusal) → r ≢ refused n
   pub differs : Decision e r → ⊥
 
@@ -66,7 +65,7 @@ module _ (p : Policy) where
   -- ---- the records of a block
 
   -- the rules' reply to one more record
-  abbrev pub replyAfter : Setting → List ℕ → State → List Entry → Entry → Reply
+  abbrev replyAfter : Setting → List ℕ → State → List Entry → Entry → Reply
   replyAfter s seeds st before e = outcomeOf p s seeds (after p s seeds st (callsOf before)) e .reply
 
   after-append : (s : Setting) (seeds : List ℕ) (st : State) (es fs : List Entry)

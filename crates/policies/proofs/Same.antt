@@ -1,6 +1,6 @@
 -- Two policies with the same limits on one state: where they reply alike they leave the same state, and where a record is the decision of
 -- both they reply alike.
-use mathlib.Core.Path.{_≡_, refl, sym, ap, _∙_, subst}
+use mathlib.Core.Path.{_≡_, refl, sym, ap, _∙_}
 use mathlib.Core.List.{List, [], _∷_}
 use mathlib.Core.Bool.{Bool, true, false, cond}
 use Prim.Native.Nat.{ℕ, zero, suc}
@@ -16,11 +16,11 @@ use Rattle.rules.specs.Clock.{turned}
 use Rattle.rules.specs.Hash.{places}
 use Rattle.rules.specs.Policy.{Policy}
 use Rattle.rules.specs.Decision.{decide, activated}
-use Rattle.rules.specs.Calls.{Call, request, done, index, Reply, refused, answered, finished, shown, Outcome, outcome, afterAnswer, unlessRefused, requested, reported, indexShown, performed, refusalOf, step, replies, after}
+use Rattle.rules.specs.Calls.{Call, request, done, index, refused, answered, Outcome, afterAnswer, unlessRefused, requested, reported, indexShown, performed, refusalOf, step, replies, after}
 use Rattle.rules.specs.Claims.{withLimits}
 use Rattle.log_format.specs.declared.Entry.{Entry}
 use Rattle.log_format.specs.Contents.{callOf}
-use Rattle.log_format.specs.Claims.{callsOf, Decision}
+use Rattle.log_format.specs.Claims.{Decision}
 use Rattle.policies.proofs.Lists.{same-first, same-others}
 
 -- an answer from its number and its wait tick

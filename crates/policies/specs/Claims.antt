@@ -1,6 +1,6 @@
 -- What is proved about logs when the rules change: the statements, as types. Their proofs are in proofs/.
 use mathlib.Core.Path.{_≡_}
-use mathlib.Core.Logic.{_≢_}
+use mathlib.Core.Logic.{_≢_, _⊎_}
 use mathlib.Core.List.{List, [], _∷_, _++_}
 use mathlib.Core.Bool.{cond}
 use Prim.Native.Nat.{ℕ, _+_, _-_}
@@ -15,13 +15,13 @@ use Rattle.rules.specs.Policy.{Policy, document01, narrow}
 use Rattle.rules.specs.Calls.{Reply, refused}
 use Rattle.log_format.specs.declared.Entry.{Entry}
 use Rattle.log_format.specs.Contents.{countIn}
-use Rattle.log_format.specs.Verdict.{Ending, agrees, differs, judged, verdict}
+use Rattle.log_format.specs.Verdict.{Ending, agrees, differs, Verdict, judged, verdict}
 use Rattle.log_format.specs.Claims.{settingOfLog, seedsOfLog, laterOf, recordsOf, rulesSay, rulesOpen, Decision, Decided, WellFormed}
 
 -- ---- where a log differs
 
 -- "`differs` with block number (from 0) and record place in it (from 1)", for record i, from 0, of these blocks; b is the number of the first
--- of them
+-- of them. Past the last record, where there is none, the place goes on counting in the block after the last.
 abbrev pub differsAt : ℕ → List (List ℕ) → ℕ → Ending
 differsAt b [] i = differs b (i + 1)
 differsAt b (s ∷ ss) i = cond (ltb i (countIn s)) (differs b (i + 1)) (differsAt (b + 1) ss (i - countIn s))
@@ -33,8 +33,12 @@ saidOf p bytes es = rulesSay p (settingOfLog bytes) (seedsOfLog bytes) es
 abbrev pub openedOf : Policy → List ℕ → List Entry → ℕ
 openedOf p bytes es = rulesOpen p (settingOfLog bytes) (seedsOfLog bytes) es
 
--- A well-formed log under an accepted setting differs at its first record that is not the rules' decision, if the rules do not refuse it. The
--- counts are those of the records before it, "the differing record is counted in the first line, and in the second if the rules open it".
+-- the verdict where these records agree and the next one, e, differs: "the differing record is counted in the first line, and in the second if
+-- the rules open it"
+abbrev pub differsAfter : Policy → List ℕ → List Entry → Entry → Verdict
+differsAfter p bytes before e = judged (length before + 1) (openedOf p bytes (before ++ (e ∷ []))) (differsAt 1 (laterOf bytes) (length before))
+
+-- A well-formed log under an accepted setting differs at its first record that is not the rules' decision, if the rules do not refuse it.
 abbrev pub DiffersAtFirst : Policy → Type 0
 DiffersAtFirst p =
     (bytes : List ℕ) → WellFormed bytes → settingRefusal (p .limits) (settingOfLog bytes) (seedsOfLog bytes) ≡ none
@@ -42,22 +46,25 @@ DiffersAtFirst p =
     → Decided before (saidOf p bytes before)
     → (r : Reply) → saidOf p bytes (before ++ (e ∷ [])) ≡ saidOf p bytes before ++ (r ∷ [])
     → ((n : Refusal) → r ≢ refused n) → (Decision e r → ⊥)
-    → verdict p bytes ≡ judged (length before + 1) (openedOf p bytes (before ++ (e ∷ []))) (differsAt 1 (laterOf bytes) (length before))
+    → verdict p bytes ≡ differsAfter p bytes before e
 
 -- ---- two policies
 
 -- After these records of the log, e is the first on which the two policies decide differently.
-pub record FirstApart (p q : Policy) (bytes : List ℕ) (before : List Entry) (e : Entry) : Type 0 where
+pub record FirstDifferent (p q : Policy) (bytes : List ℕ) (before : List Entry) (e : Entry) : Type 0 where
   pub alike : saidOf q bytes before ≡ saidOf p bytes before
   pub apart : saidOf q bytes (before ++ (e ∷ [])) ≢ saidOf p bytes (before ++ (e ∷ []))
 
 -- What becomes of a log that agrees under p, with r records and o opened, under q: "A log that agreed under the old .. differs at the first
 -- entry that the two .. decide differently, and agrees if there is none." Records and openings are counted as q decides, that record included.
 pub record Becomes (p q : Policy) (bytes : List ℕ) (r o : ℕ) : Type 0 where
-  pub differing : (before rest : List Entry) (e : Entry) → recordsOf bytes ≡ before ++ (e ∷ rest) → FirstApart p q bytes before e
-      → verdict q bytes ≡ judged (length before + 1) (openedOf q bytes (before ++ (e ∷ []))) (differsAt 1 (laterOf bytes) (length before))
-  pub agreeing : ((before rest : List Entry) (e : Entry) → recordsOf bytes ≡ before ++ (e ∷ rest) → FirstApart p q bytes before e → ⊥)
+  pub differing : (before rest : List Entry) (e : Entry) → recordsOf bytes ≡ before ++ (e ∷ rest) → FirstDifferent p q bytes before e
+      → verdict q bytes ≡ differsAfter q bytes before e
+  pub agreeing : ((before rest : List Entry) (e : Entry) → recordsOf bytes ≡ before ++ (e ∷ rest) → FirstDifferent p q bytes before e → ⊥)
       → verdict q bytes ≡ judged r o agrees
+  -- one of the two is the case
+  pub either : (verdict q bytes ≡ judged r o agrees)
+      ⊎ ((before : List Entry) × (e : Entry) × (rest : List Entry) × (recordsOf bytes ≡ before ++ (e ∷ rest)) × FirstDifferent p q bytes before e)
 
 -- for any two policies with the same limits
 abbrev pub AfterChange : Policy → Policy → Type 0

@@ -154,7 +154,7 @@ pub fn flying_refusal(s: Setting, threads: &[u32], bank: u64, thread: u64) -> u3
     requires { ⌜ (bank < s .banks) × (thread < s .threads) × (s .banks ≤ 16) × (s .threads ≤ 32) × (threadsUsed s ≤ length (now threads)) ⌝ }
     ensures { λ r. ⌜ r ≡ refusalNumber (refuse (eqb (getD (now (threads .entry)) (threadCell s bank thread 2) 0) 0) noneInFlight none) ⌝ }
 {
-    let flight = thread_cells::cell(s, bank, thread) + 2;
+    let flight = thread_counters::cell(s, bank, thread) + 2;
     if threads[flight] == 0 { 10 } else { 0 }
 }
 

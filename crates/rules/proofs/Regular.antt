@@ -1,4 +1,5 @@
--- The rules in force have a quota from 1 to 255, and count as in flight at least what the named bank has.
+-- The rules in force: the quota rounds as document 02, d, says, is at most 255, and is Q while the index counter is 0; in flight is never fewer
+-- than the named bank's own.
 use mathlib.Core.Path.{_≡_}
 use mathlib.Core.List.{List}
 use Prim.Native.Nat.{ℕ, _-_, _*_, _≤_, min}

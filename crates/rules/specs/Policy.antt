@@ -16,11 +16,12 @@ pub record Policy : Type 0 where
 abbrev pub limits01 : Limits
 limits01 = record { threshold = 32768; history = 4096 }
 
--- the rules of document 01's own table of cases
+-- document 01's own rules: of its table of cases, and of logs written before a rule changed
 abbrev pub document01 : Policy
 document01 = record { limits = limits01; quota = quotaDown; inFlight = inFlightHere }
 
--- The rules in force, for the limits of a width. A request of document 02 that changes a rule changes it here: d the quota's rounding.
+-- The rules in force, for the limits of a width. A request of document 02 that changes a rule changes it here; so far d, the
+-- rounding of the quota.
 abbrev pub inForce : Limits → Policy
 inForce m = record { limits = m; quota = quotaEven; inFlight = inFlightHere }
 

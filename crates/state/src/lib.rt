@@ -49,7 +49,7 @@ pub fn turn(s: Setting, h: Head, threads: &mut [u32], tick: u64) -> Turned
     let length = s.w / 2;
     let from = h.last / length;
     let to = epoch_from(tick, from, length);
-    thread_cells::turn(threads, (s.banks * s.threads * 3) as usize, from, to);
+    thread_counters::turn(threads, (s.banks * s.threads * 3) as usize, from, to);
     Turned {
         head: h.moved(tick),
         from,
@@ -75,6 +75,6 @@ pub fn activate(
 {
     let places = setting::history_length(s);
     history::record(ticks, rows, h.next as usize, h.last, row_word(bank, row));
-    thread_cells::activate(threads, s, bank, thread, black);
+    thread_counters::activate(threads, s, bank, thread, black);
     h.activated(places as u64, bank as usize)
 }

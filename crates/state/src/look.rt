@@ -72,7 +72,7 @@ pub fn look(
 {
     let length = s.w / 2;
     let f = (e % 2) as usize;
-    let cell = thread_cells::cell(s, bank, thread);
+    let cell = thread_counters::cell(s, bank, thread);
     let c = threads[cell + f];
     let flying = threads[cell + 2] as u64;
     let quota = quota::quota(s, c);

@@ -211,7 +211,7 @@ fn shows(run: &Run, fault: Fault) -> bool {
 
 #[test]
 fn every_fault_shows() {
-    assert!(Fault::ALL.len() >= 22);
+    assert!(Fault::ALL.len() >= 60);
     assert_eq!(Fault::default(), Fault::None);
     for &fault in Fault::ALL {
         let found = (1..2000).any(|seed| shows(&run(seed), fault));

@@ -4,7 +4,7 @@ use mathlib.Core.Path.{refl, ap, _∙_}
 use native.Mathlib.Omega.{arith}
 use lib.ListN.{getD}
 use Rattle.rules.specs.State.{threadCell}
-use Rattle.thread_cells.proofs.Index.{cell-at}
+use Rattle.thread_counters.proofs.Index.{cell-at}
 use borrow.Author.Needs.{needs}
 use Rattle.calls.proofs.index.Statement.{statement}
 use Rattle.calls.proofs.index.Tie as tie

@@ -16,13 +16,13 @@ mul-twice : tie.Need-mul-twice
 mul-twice c = omega (arith, mod-lt (c .args .a) {m = c .args .b} (omega arith))
 
 returns : tie.Need-returns
-returns c = rounds-short (c .before .args .a) (c .before .args .b) (c .if1 .taken)
+returns c = rounds-short (c .before .args .a) (c .before .args .b) (omega arith)
 
 add-result : tie.Need-add-result
 add-result c = let a = c .before .before .args in omega (arith, div-le-self (a .a) (a .b))
 
 returns-2 : tie.Need-returns-2
-returns-2 c = let a = c .before .before .args in rounds-past (a .a) (a .b) (c .if2 .taken)
+returns-2 c = let a = c .before .before .args in rounds-past (a .a) (a .b) (omega arith)
 
 add-result-2 : tie.Need-add-result-2
 add-result-2 c = let a = c .before .before .args in omega (arith, div-le-self (a .a) (a .b))

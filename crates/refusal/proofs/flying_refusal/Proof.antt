@@ -8,7 +8,7 @@ use borrow.Author.Tests.{eq-eqb, ne-eqb}
 use Rattle.rules.specs.Answers.{none, noneInFlight, refusalNumber, refuse}
 use Rattle.rules.specs.State.{threadCell}
 use Rattle.rules.proofs.Accept.{cells-small}
-use Rattle.thread_cells.proofs.Index.{cell-at}
+use Rattle.thread_counters.proofs.Index.{cell-at}
 use borrow.Author.Needs.{needs}
 use Rattle.refusal.proofs.flying_refusal.Statement.{statement}
 use Rattle.refusal.proofs.flying_refusal.Tie as tie
