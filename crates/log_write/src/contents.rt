@@ -1,5 +1,5 @@
 // What a block holds, stored: a record of a later block, the setting and the seeds of block 0.
-use crate::bytes::put;
+use log_bytes::store::put;
 use log_format::Entry;
 ghost use mathlib.Core.Path.{_≡_};
 ghost use Prim.Native.Nat.{_<_};

@@ -1,5 +1,3 @@
-// One block of a log, written: what it holds, and the frame around that. The format is defined in the crate `log_format`; the crate
-// `log` has the calls for C and tests what the format can hold.
-pub mod block;
-mod bytes;
+// What one block of a log holds, written. The format is defined in the crate `log_format`; the crate `log_frame` has the frame around
+// it, and the crate `log` the calls for C, which test what the format can hold.
 pub mod contents;
