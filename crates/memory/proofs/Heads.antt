@@ -1,24 +1,42 @@
--- The test of the head's stored ticks, in the words where they lie: one by one, and by or-ed differences.
-use Prim.Native.Nat.{ℕ, _+_, _%_, _^_, _≤_, _<_}
-use mathlib.Core.Path.{_≡_, sym, ap, ap₂, _∙_}
+-- The tests of refusal 7: the head's stored ticks in the words where they lie, one by one and by or-ed differences, and the whole test.
+use Prim.Native.Nat.{ℕ, suc, _+_, _%_, _^_, _≤_, _<_}
+use mathlib.Core.Path.{_≡_, refl, sym, ap, ap₂, _∙_, subst}
 use mathlib.Core.List.{List}
-use mathlib.Core.Bool.{Bool, true, false, _&&_}
+use mathlib.Core.Bool.{Bool, true, false, not, _&&_}
 use native.Mathlib.Omega.{arith}
 use native.Mathlib.Nat.{mod-eq-of-lt, mod-le}
 use lib.Dec.{T, ltb}
 use lib.Bits.{bitOr}
 use lib.ListN.{getD}
 use Rattle.rules.specs.declared.Setting.{Setting}
+use Rattle.rules.specs.declared.Head.{Head}
 use Rattle.rules.specs.Cells.{every}
 use Rattle.rules.specs.State.{headOf}
 use Rattle.rules.specs.Setting.{historyLength}
 use Rattle.rules.specs.History.{notAfter, neverRises}
-use Rattle.rules.proofs.Tests.{and-assoc, holds, is-true, every-at, every-all, every-same}
+use Rattle.rules.proofs.Tests.{and-assoc, holds, is-false, is-true, every-at, every-all, every-same}
 use Rattle.rules.proofs.Cells.{getD-cells}
 use Rattle.rules.proofs.Memory.{after-not}
 use Rattle.runs.proofs.Near.{or-parts}
-use Rattle.refusal.specs.Tests.{wordsPast, memoryTest}
-use Rattle.refusal.proofs.Refusals.{every-none, every-more, every-stops, inRing, banksPast, rankPast, historyOk, memory-tests}
+use Rattle.memory.specs.Memory.{wordsPast, memoryTest}
+
+-- ---- a test of every number below n, one by one
+
+pub every-none : (p : ℕ → Bool) → every 0 p ≡ true
+every-none p = refl
+
+pub every-more : (n : ℕ) (p : ℕ → Bool) → every n p ≡ true → p n ≡ true → every (n + 1) p ≡ true
+every-more n p a b = is-true (every (n + 1) p) (every-all (n + 1) p (λ i k. go i k))
+  where
+    go : (i : ℕ) → i < n + 1 → T (p i)
+    go i k = every-at (suc n) p (rw (a, b) tt) i (omega arith)
+
+pub every-stops : (n i : ℕ) (p : ℕ → Bool) → i < n → p i ≡ false → every n p ≡ false
+every-stops n i p h e = is-false (every n p) (go (every n p) refl)
+  where
+    go : (q : Bool) → every n p ≡ q → T (not q)
+    go true k = absurd (subst T e (every-at n p (subst T (sym k) tt) i h))
+    go false k = tt
 
 -- ---- one by one
 
@@ -62,6 +80,32 @@ quick-more words k all d limit f el e h =
     let most = mod-le (getD words 0 0 + 1) (2 ^ 64) in
     let low : stored ≤ getD words 0 0 + 1 = omega (arith, sym whole ∙ e ∙ el, most) in
     past-more words 2 k (f (q .0)) (is-true (one words 2 k) (after-not (getD words 0 0) stored low))
+
+-- ---- the tests of the memory, in their order
+
+module _ (s : Setting) (h : Head) (ticks : List ℕ) where
+  abbrev pub inRing : Bool
+  inRing = ltb (h .next) (historyLength s)
+
+  abbrev pub banksPast : Bool
+  banksPast = every (s .banks) (λ b. notAfter (h .last) (getD (h .bank) b 0))
+
+  abbrev pub rankPast : Bool
+  rankPast = every 4 (λ k. notAfter (h .last) (getD (h .rank) k 0))
+
+  abbrev pub historyOk : Bool
+  historyOk = every (historyLength s) (λ p. notAfter (h .last) (getD ticks p 0)) && neverRises (historyLength s) (h .next) ticks
+
+  tests : (a b c d e : Bool) → (a && b && c && d && e) ≡ (a && (b && (c && (d && e))))
+  tests true true true d e = refl
+  tests true true false d e = refl
+  tests true false c d e = refl
+  tests false b c d e = refl
+
+  pub memory-tests : memoryTest s h ticks ≡ (inRing && (banksPast && (rankPast && historyOk)))
+  unfolding memoryTest
+  memory-tests =
+      tests inRing banksPast rankPast (every (historyLength s) (λ p. notAfter (h .last) (getD ticks p 0))) (neverRises (historyLength s) (h .next) ticks)
 
 -- ---- the head that the words hold
 

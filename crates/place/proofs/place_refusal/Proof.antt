@@ -1,8 +1,8 @@
 -- `place_refusal` tests bank, thread and tick in their order.
 use borrow.Author.Tests.{lt-ltb, le-ltb, le-leb, lt-leb}
-use Rattle.refusal.specs.Tests.{placeRefusal}
-use Rattle.refusal.proofs.place_refusal.Statement.{statement}
-use Rattle.refusal.proofs.place_refusal.Tie as tie
+use Rattle.place.specs.Place.{placeRefusal}
+use Rattle.place.proofs.place_refusal.Statement.{statement}
+use Rattle.place.proofs.place_refusal.Tie as tie
 
 returns : tie.Need-returns
 unfolding placeRefusal

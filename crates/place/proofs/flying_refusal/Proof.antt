@@ -10,8 +10,8 @@ use Rattle.rules.specs.State.{threadCell}
 use Rattle.rules.proofs.Accept.{cells-small}
 use Rattle.quota.proofs.Index.{cell-at}
 use borrow.Author.Needs.{needs}
-use Rattle.refusal.proofs.flying_refusal.Statement.{statement}
-use Rattle.refusal.proofs.flying_refusal.Tie as tie
+use Rattle.place.proofs.flying_refusal.Statement.{statement}
+use Rattle.place.proofs.flying_refusal.Tie as tie
 
 -- the thread's cells lie in the used part, which is small
 in-cells : (c : tie.After-cell) → (c .cell .result + 3 ≤ 1536) × (c .cell .result + 3 ≤ length (c .before .before .args .threads .now))

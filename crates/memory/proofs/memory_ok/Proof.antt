@@ -5,10 +5,10 @@ use lib.Dec.{ltb}
 use lib.ListN.{getD}
 use borrow.Author.Tests.{lt-ltb, le-ltb, not-true, not-false}
 use Rattle.rules.specs.Setting.{historyLength}
-use Rattle.refusal.proofs.Heads.{memory-words}
+use Rattle.memory.proofs.Heads.{memory-words}
 use borrow.Author.Needs.{needs}
-use Rattle.refusal.proofs.memory.memory_ok.Statement.{statement}
-use Rattle.refusal.proofs.memory.memory_ok.Tie as tie
+use Rattle.memory.proofs.memory_ok.Statement.{statement}
+use Rattle.memory.proofs.memory_ok.Tie as tie
 
 inside : (c : tie.Else1) → ltb (getD (c .before .before .before .args .head .now) 1 0) (historyLength (c .before .before .before .args .s)) ≡ true
 inside c =

@@ -3,11 +3,11 @@ use mathlib.Core.Path.{sym, ap, ap₂, _∙_}
 use mathlib.Core.Bool.{_&&_}
 use native.Mathlib.Omega.{arith}
 use borrow.Author.Tests.{not-true, not-false}
-use Rattle.refusal.specs.Tests.{wordsPast}
-use Rattle.refusal.proofs.Heads.{past-part}
+use Rattle.memory.specs.Memory.{wordsPast}
+use Rattle.memory.proofs.Heads.{past-part}
 use borrow.Author.Needs.{needs}
-use Rattle.refusal.proofs.memory.head_past.Statement.{statement}
-use Rattle.refusal.proofs.memory.head_past.Tie as tie
+use Rattle.memory.proofs.head_past.Statement.{statement}
+use Rattle.memory.proofs.head_past.Tie as tie
 
 distances-requires : tie.Need-distances-requires
 distances-requires c κs = search needs

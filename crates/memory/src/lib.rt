@@ -6,7 +6,7 @@ ghost use Prim.Native.Nat.{_+_, _≤_, _<_, _^_};
 ghost use lib.ListN.{length};
 ghost use Rattle.rules.specs.Setting.{historyLength};
 ghost use Rattle.rules.specs.State.{headOf};
-ghost use Rattle.refusal.specs.Tests.{wordsPast, memoryTest};
+ghost use Rattle.memory.specs.Memory.{wordsPast, memoryTest};
 
 // The head's twenty stored ticks and what each leaves of the last tick plus one, or-ed: no branch, so that the compiler uses vectors. While the top
 // bit is clear in all of them, no difference has wrapped, so no stored tick is after the last tick.
