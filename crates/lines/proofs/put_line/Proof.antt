@@ -1,10 +1,10 @@
 -- `put_line` puts three parts, each at the end of the one before.
 use native.Mathlib.Omega.{arith}
 use lib.ListN.{take}
-use Rattle.report.proofs.Lines.{line-law}
+use Rattle.lines.proofs.Parts.{line-law}
 use borrow.Author.Needs.{needs}
-use Rattle.report.proofs.put_line.Statement.{statement}
-use Rattle.report.proofs.put_line.Tie as tie
+use Rattle.lines.proofs.put_line.Statement.{statement}
+use Rattle.lines.proofs.put_line.Tie as tie
 
 put-requires : tie.Need-put-requires
 put-requires c κs = search needs

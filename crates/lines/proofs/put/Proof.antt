@@ -6,10 +6,10 @@ use native.Mathlib.Omega.{arith}
 use native.Mathlib.Nat.{add-zero}
 use lib.ListN.{length, take, length-set}
 use lib.Seq.{take-length}
-use Rattle.report.proofs.Lines.{put-more}
+use Rattle.lines.proofs.Parts.{put-more}
 use borrow.Author.Needs.{needs}
-use Rattle.report.proofs.put.Statement.{statement}
-use Rattle.report.proofs.put.Tie as tie
+use Rattle.lines.proofs.put.Statement.{statement}
+use Rattle.lines.proofs.put.Tie as tie
 
 abbrev Inv-loop : tie.InvT-loop
 Inv-loop out₀ at word i₀ out i = (i ≤ length word) × (length out ≡ length out₀) × (take (at + i) out ≡ take at out₀ ++ take i word)

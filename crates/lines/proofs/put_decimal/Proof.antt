@@ -4,11 +4,11 @@ use mathlib.Core.Path.{ap, _∙_}
 use mathlib.Core.List.{List, _++_}
 use native.Mathlib.Omega.{arith}
 use lib.ListN.{take}
-use Rattle.report.specs.Text.{decimalOf}
-use Rattle.report.proofs.Digits.{digits-are, at-most-20}
+use Rattle.lines.specs.Lines.{decimalOf}
+use Rattle.lines.proofs.Digits.{digits-are, at-most-20}
 use borrow.Author.Needs.{needs}
-use Rattle.report.proofs.put_decimal.Statement.{statement}
-use Rattle.report.proofs.put_decimal.Tie as tie
+use Rattle.lines.proofs.put_decimal.Statement.{statement}
+use Rattle.lines.proofs.put_decimal.Tie as tie
 
 decimal-requires : tie.Need-decimal-requires
 decimal-requires c κs = search needs

@@ -1,10 +1,10 @@
 -- `put_line_of_two` puts five parts, each at the end of the one before.
 use native.Mathlib.Omega.{arith}
 use lib.ListN.{take}
-use Rattle.report.proofs.Lines.{two-law}
+use Rattle.lines.proofs.Parts.{two-law}
 use borrow.Author.Needs.{needs}
-use Rattle.report.proofs.put_line_of_two.Statement.{statement}
-use Rattle.report.proofs.put_line_of_two.Tie as tie
+use Rattle.lines.proofs.put_line_of_two.Statement.{statement}
+use Rattle.lines.proofs.put_line_of_two.Tie as tie
 
 put-requires : tie.Need-put-requires
 put-requires c κs = search needs

@@ -6,7 +6,7 @@ use native.Mathlib.Omega.{arith}
 use native.Mathlib.Nat.{not-suc-le-zero, le-of-suc-le-suc, pow-suc, mod-lt}
 use borrow.Author.Tests.{lt-ltb, le-ltb}
 use Rattle.io.specs.Digits.{glyph, digits, Fewest}
-use Rattle.report.specs.Text.{decimalFrom}
+use Rattle.lines.specs.Lines.{decimalFrom}
 
 glyph-low : (d : ℕ) → d < 10 → glyph d ≡ 48 + d
 glyph-low d h = rw (lt-ltb d 10 h)
