@@ -1,35 +1,13 @@
-// Whether a block has the layout of the format: refusal 13.
+// Whether a block has the layout of the format: refusal 13. The crate `log_records` looks at the records.
 use log_bytes::read::byte;
 use log_bytes::read::word32;
 use log_bytes::tests::and;
 use log_bytes::tests::are_zero;
+use log_records::are_records;
 ghost use mathlib.Core.Path.{_≡_};
 ghost use mathlib.Core.Bool.{true};
-ghost use Prim.Native.Nat.{_≤_, _<_, _^_};
-ghost use Rattle.rules.specs.Cells.{every};
-ghost use Rattle.log_format.specs.Blocks.{startLaidOut, recordLaidOut, recordsLaidOut, inTurn, laidOut};
-
-// Record k: its kind, its answer and two zeros.
-fn is_record(block: &[u8; 512], k: usize) -> bool
-    requires { ⌜ k < 20 ⌝ }
-    ensures { λ r. ⌜ r ≡ recordLaidOut (now (block .entry)) k ⌝ }
-{
-    let at = 8 + 24 * k;
-    let named = and(byte(block, at + 20) <= 1, byte(block, at + 21) <= 4);
-    and(named, are_zero(block, at + 22, 2))
-}
-
-// The first n records.
-fn are_records(block: &[u8; 512], n: usize) -> bool
-    requires { ⌜ n ≤ 20 ⌝ }
-    ensures { λ r. ⌜ r ≡ every n (λ k. recordLaidOut (now (block .entry)) k) ⌝ }
-{
-    let mut ok = true;
-    for k in 0..n {
-        ok = and(ok, is_record(block, k));
-    }
-    ok
-}
+ghost use Prim.Native.Nat.{_<_, _^_};
+ghost use Rattle.log_format.specs.Blocks.{startLaidOut, recordsLaidOut, inTurn, laidOut};
 
 // The body of a later block.
 fn is_later(block: &[u8; 512]) -> bool

@@ -6,8 +6,8 @@ use Rattle.rules.specs.Cells.{every}
 use Rattle.log_format.specs.Blocks.{recordLaidOut}
 use Rattle.log_bytes.proofs.Zeros.{every-more}
 use borrow.Author.Needs.{needs}
-use Rattle.log_layout.proofs.are_records.Statement.{statement}
-use Rattle.log_layout.proofs.are_records.Tie as tie
+use Rattle.log_records.proofs.are_records.Statement.{statement}
+use Rattle.log_records.proofs.are_records.Tie as tie
 
 abbrev Inv-loop : tie.InvT-loop
 Inv-loop block n ok₀ k₀ ok k = (k ≤ n) × (ok ≡ every k (λ j. recordLaidOut block j))

@@ -1,8 +1,8 @@
 -- `is_record`: the tests of the definition, in its order.
 use Rattle.log_format.specs.Blocks.{recordLaidOut}
 use borrow.Author.Needs.{needs}
-use Rattle.log_layout.proofs.is_record.Statement.{statement}
-use Rattle.log_layout.proofs.is_record.Tie as tie
+use Rattle.log_records.proofs.is_record.Statement.{statement}
+use Rattle.log_records.proofs.is_record.Tie as tie
 
 mul-at : tie.Need-mul-at
 mul-at c = search needs
