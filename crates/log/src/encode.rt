@@ -3,9 +3,9 @@
 use log_bytes::tests::and;
 use log_format::Entry;
 use log_frame::frame;
-use log_write::contents::put_record;
-use log_write::contents::put_seeds;
-use log_write::contents::put_setting;
+use log_start::put_seeds;
+use log_start::put_setting;
+use log_write::put_record;
 ghost use mathlib.Core.Path.{_≡_};
 ghost use Prim.Native.Nat.{_^_};
 ghost use lib.Dec.{ltb};

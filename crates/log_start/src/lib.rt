@@ -1,27 +1,9 @@
-// What a block holds, stored: a record of a later block, the setting and the seeds of block 0.
+// What block 0 of a log holds, stored: the setting and the seeds. The format is defined in the crate `log_format`.
 use log_bytes::store::put;
-use log_format::Entry;
 ghost use mathlib.Core.Path.{_≡_};
-ghost use Prim.Native.Nat.{_<_};
 ghost use lib.ListN.{length};
 ghost use lib.Seq.{sets};
-ghost use Rattle.log_format.specs.Encode.{putRecord, numbersBytes};
-
-// The record at place k, its last two bytes zeros.
-pub fn put_record(block: &mut [u8; 512], k: usize, e: Entry)
-    requires { ⌜ k < 20 ⌝ }
-    ensures { λ _. ⌜ now (block .exit) ≡ putRecord (now (block .entry)) k e ⌝ }
-{
-    let at = 8 + 24 * k;
-    put(block, at, 8, e.tick);
-    put(block, at + 8, 8, e.wait);
-    put(block, at + 16, 2, e.row as u64);
-    put(block, at + 18, 1, e.bank);
-    put(block, at + 19, 1, e.thread);
-    put(block, at + 20, 1, e.kind);
-    put(block, at + 21, 1, e.answer);
-    put(block, at + 22, 2, 0);
-}
+ghost use Rattle.log_format.specs.Encode.{numbersBytes};
 
 // The nine numbers of a setting, four bytes each.
 pub fn put_setting(block: &mut [u8; 512], setting: &[u64; 9])

@@ -1,11 +1,11 @@
--- `contents::put_setting`. The loop's invariant: the numbers passed are stored.
+-- `put_setting`. The loop's invariant: the numbers passed are stored.
 use Prim.Native.Nat.{_-_}
 use mathlib.Core.Path.{refl}
 use native.Mathlib.Omega.{arith}
 use Rattle.log_format.proofs.Stores.{Storing, storing-more, storing-done}
 use borrow.Author.Needs.{needs}
-use Rattle.log_write.proofs.contents.put_setting.Statement.{statement}
-use Rattle.log_write.proofs.contents.put_setting.Tie as tie
+use Rattle.log_start.proofs.put_setting.Statement.{statement}
+use Rattle.log_start.proofs.put_setting.Tie as tie
 
 abbrev Inv-loop : tie.InvT-loop
 Inv-loop block₀ setting i₀ block i = Storing block₀ block setting 8 4 9 i

@@ -1,11 +1,11 @@
--- `contents::put_record`: eight runs of stores, one after another.
+-- `put_record`: eight runs of stores, one after another.
 use mathlib.Core.Path.{_∙_}
 use Rattle.log_format.specs.Contents.{recordAt}
 use Rattle.log_format.specs.Encode.{putRecord}
 use Rattle.log_format.proofs.Stores.{record-stores}
 use borrow.Author.Needs.{needs}
-use Rattle.log_write.proofs.contents.put_record.Statement.{statement}
-use Rattle.log_write.proofs.contents.put_record.Tie as tie
+use Rattle.log_write.proofs.put_record.Statement.{statement}
+use Rattle.log_write.proofs.put_record.Tie as tie
 
 mul-at : tie.Need-mul-at
 mul-at c = search needs

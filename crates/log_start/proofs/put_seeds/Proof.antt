@@ -1,11 +1,11 @@
--- `contents::put_seeds`. The loop's invariant: the numbers passed are stored.
+-- `put_seeds`. The loop's invariant: the numbers passed are stored.
 use Prim.Native.Nat.{_-_}
 use mathlib.Core.Path.{refl, _∙_}
 use native.Mathlib.Omega.{arith}
 use Rattle.log_format.proofs.Stores.{Storing, storing-more, storing-done}
 use borrow.Author.Needs.{needs}
-use Rattle.log_write.proofs.contents.put_seeds.Statement.{statement}
-use Rattle.log_write.proofs.contents.put_seeds.Tie as tie
+use Rattle.log_start.proofs.put_seeds.Statement.{statement}
+use Rattle.log_start.proofs.put_seeds.Tie as tie
 
 abbrev Inv-loop : tie.InvT-loop
 Inv-loop block₀ seeds i₀ block i = Storing block₀ block seeds 44 2 64 i
