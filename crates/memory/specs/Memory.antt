@@ -1,5 +1,5 @@
 -- The test of refusal 7, from the head and the history ticks.
-use Prim.Native.Nat.{ℕ, _+_}
+use Prim.Native.Nat.{ℕ}
 use mathlib.Core.List.{List}
 use mathlib.Core.Bool.{Bool, _&&_}
 use lib.Dec.{ltb}
@@ -18,7 +18,3 @@ memoryTest s h ticks =
     && every 4 (λ k. notAfter (h .last) (getD (h .rank) k 0))
     && every (historyLength s) (λ p. notAfter (h .last) (getD ticks p 0))
     && neverRises (historyLength s) (h .next) ticks
-
--- none of the n stored ticks from word i of the head on is after the last tick, which is word 0
-unfoldable pub wordsPast : List ℕ → ℕ → ℕ → Bool
-wordsPast words i n = every n (λ k. notAfter (getD words 0 0) (getD words (i + k) 0))

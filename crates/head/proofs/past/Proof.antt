@@ -5,11 +5,11 @@ use mathlib.Core.Bool.{true}
 use native.Mathlib.Omega.{arith}
 use lib.ListN.{getD}
 use borrow.Author.Tests.{not-true, not-false}
-use Rattle.memory.specs.Memory.{wordsPast}
-use Rattle.memory.proofs.Heads.{past-none, past-more, past-stops}
+use Rattle.head.specs.Words.{wordsPast}
+use Rattle.head.proofs.Ticks.{past-none, past-more, past-stops}
 use borrow.Author.Needs.{needs}
-use Rattle.memory.proofs.past.Statement.{statement}
-use Rattle.memory.proofs.past.Tie as tie
+use Rattle.head.proofs.past.Statement.{statement}
+use Rattle.head.proofs.past.Tie as tie
 
 abbrev Inv-loop : tie.InvT-loop
 Inv-loop head i n last k₀ k = (k ≤ n) × (last ≡ getD head 0 0) × (wordsPast head i k ≡ true)

@@ -4,11 +4,11 @@ use mathlib.Core.Path.{_≡_}
 use mathlib.Core.Bool.{true}
 use native.Mathlib.Omega.{arith}
 use lib.ListN.{getD}
-use Rattle.memory.specs.Memory.{wordsPast}
-use Rattle.memory.proofs.Heads.{past-none, quick-more}
+use Rattle.head.specs.Words.{wordsPast}
+use Rattle.head.proofs.Ticks.{past-none, quick-more}
 use borrow.Author.Needs.{needs}
-use Rattle.memory.proofs.distances.Statement.{statement}
-use Rattle.memory.proofs.distances.Tie as tie
+use Rattle.head.proofs.distances.Statement.{statement}
+use Rattle.head.proofs.distances.Tie as tie
 
 abbrev Inv-loop : tie.InvT-loop
 Inv-loop head limit all₀ k₀ all k = (k ≤ 20) × (limit ≡ (getD head 0 0 + 1) % 2 ^ 64) × (all < 2 ^ 63 → wordsPast head 2 k ≡ true)

@@ -3,11 +3,11 @@ use mathlib.Core.Path.{sym, ap, ap₂, _∙_}
 use mathlib.Core.Bool.{_&&_}
 use native.Mathlib.Omega.{arith}
 use borrow.Author.Tests.{not-true, not-false}
-use Rattle.memory.specs.Memory.{wordsPast}
-use Rattle.memory.proofs.Heads.{past-part}
+use Rattle.head.specs.Words.{wordsPast}
+use Rattle.head.proofs.Ticks.{past-part}
 use borrow.Author.Needs.{needs}
-use Rattle.memory.proofs.head_past.Statement.{statement}
-use Rattle.memory.proofs.head_past.Tie as tie
+use Rattle.head.proofs.head_past.Statement.{statement}
+use Rattle.head.proofs.head_past.Tie as tie
 
 distances-requires : tie.Need-distances-requires
 distances-requires c κs = search needs
