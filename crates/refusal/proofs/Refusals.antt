@@ -6,7 +6,6 @@ use mathlib.Core.List.{List}
 use mathlib.Core.Bool.{Bool, true, false, not, _||_}
 use native.Mathlib.Omega.{arith}
 use lib.Dec.{leb, ltb, nltb→le, nleb→lt}
-use borrow.Author.Tests.{le-ltb, eq-eqb, ne-eqb}
 use lib.ListN.{length}
 use Rattle.rules.specs.declared.Setting.{Setting}
 use Rattle.rules.specs.declared.Limits.{Limits}
@@ -20,23 +19,11 @@ use Rattle.rules.specs.Calls.{setupRefusal, callRefusal, doneRefusal}
 use Rattle.rules.proofs.Tests.{not-or}
 use Rattle.rules.proofs.Accept.{number-none, first-refusal, orElse-none, refuse-none, accepted}
 use Rattle.memory.specs.Memory.{memoryTest}
-use Rattle.refusal.specs.Tests.{shortTest, placeRefusal, setupTest, lentTest, callTest, doneTest}
-
--- the last of the lengths decides where the others are long enough
-pub short-last : (s : Setting) (counters ticks rows threads : ℕ) → countersUsed s ≤ counters → historyLength s ≤ ticks → historyLength s ≤ rows
-    → ltb threads (threadsUsed s) ≡ shortTest s counters ticks rows threads
-unfolding shortTest
-short-last s counters ticks rows threads a b c = rw (le-ltb counters (countersUsed s) a, le-ltb ticks (historyLength s) b, le-ltb rows (historyLength s) c)
+use Rattle.lengths.specs.Lengths.{shortTest}
+use Rattle.refusal.specs.Tests.{placeRefusal, setupTest, lentTest, callTest, doneTest}
+pub use Rattle.lengths.proofs.Order.{orElse-first, orElse-second}
 
 -- ---- the order
-
--- the first refusal is given where there is one
-pub orElse-first : (a b : Refusal) → refusalNumber a ≢ 0 → orElse a b ≡ a
-orElse-first a b h = rw (ne-eqb (refusalNumber a) 0 h)
-
--- and else the second
-pub orElse-second : (a b : Refusal) → refusalNumber a ≡ 0 → orElse a b ≡ b
-orElse-second a b h = rw (eq-eqb (refusalNumber a) 0 h)
 
 -- a refusal and nothing after it
 pub orElse-nothing : (a : Refusal) → orElse a none ≡ a

@@ -1,27 +1,17 @@
 -- The tests of a call's refusals, from the numbers and the lists that each looks at; no test looks into a filter counter.
 use Prim.Native.Nat.{ℕ}
 use mathlib.Core.List.{List}
-use mathlib.Core.Bool.{Bool, true, not, _&&_, _||_}
-use lib.Dec.{ltb, eqb}
+use mathlib.Core.Bool.{Bool, true, not, _&&_}
+use lib.Dec.{eqb}
 use lib.ListN.{length, getD}
 use Rattle.rules.specs.declared.Setting.{Setting}
 use Rattle.rules.specs.declared.Limits.{Limits}
 use Rattle.rules.specs.declared.Head.{Head}
-use Rattle.rules.specs.Answers.{Refusal, none, shortBuffer, badMemory, noneInFlight, refuse, orElse}
-use Rattle.rules.specs.Setting.{historyLength, settingRefusal}
-use Rattle.rules.specs.State.{countersUsed, threadsUsed, threadCell}
+use Rattle.rules.specs.Answers.{Refusal, none, badMemory, noneInFlight, refuse, orElse}
+use Rattle.rules.specs.State.{threadCell}
 use Rattle.memory.specs.Memory.{memoryTest}
+unfoldable pub use Rattle.lengths.specs.Lengths.{setupTest}
 unfoldable pub use Rattle.place.specs.Place.{placeRefusal}
-
--- refusal 6, by the lengths of the buffers
-unfoldable pub shortTest : Setting → ℕ → ℕ → ℕ → ℕ → Bool
-shortTest s counters ticks rows threads =
-    ltb counters (countersUsed s) || ltb ticks (historyLength s) || ltb rows (historyLength s) || ltb threads (threadsUsed s)
-
--- refusals 1 to 6, by the lengths of the buffers
-unfoldable pub setupTest : Limits → Setting → List ℕ → ℕ → ℕ → ℕ → ℕ → Refusal
-setupTest m s seeds counters ticks rows threads =
-    orElse (settingRefusal m s seeds) (refuse (shortTest s counters ticks rows threads) shortBuffer none)
 
 -- refusals 1 to 6, and 7 where the call keeps what the memory holds, as every call but set-up does
 unfoldable pub lentTest : Limits → Setting → List ℕ → Head → ℕ → List ℕ → ℕ → ℕ → Bool → Refusal

@@ -1,12 +1,12 @@
 -- `too_short` compares the four lengths with the used parts.
 use native.Mathlib.Omega.{arith}
 use borrow.Author.Tests.{lt-ltb, le-ltb}
-use Rattle.refusal.specs.Tests.{shortTest}
-use Rattle.refusal.proofs.Refusals.{short-last}
+use Rattle.lengths.specs.Lengths.{shortTest}
+use Rattle.lengths.proofs.Order.{short-last}
 use Rattle.rules.proofs.Accept.{cells-small}
 use borrow.Author.Needs.{needs}
-use Rattle.refusal.proofs.too_short.Statement.{statement}
-use Rattle.refusal.proofs.too_short.Tie as tie
+use Rattle.lengths.proofs.too_short.Statement.{statement}
+use Rattle.lengths.proofs.too_short.Tie as tie
 
 mul-if1 : tie.Need-mul-if1
 mul-if1 c = search needs

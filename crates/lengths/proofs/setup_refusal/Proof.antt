@@ -4,11 +4,11 @@ use Rattle.rules.specs.Answers.{none, shortBuffer, refusalNumber, refuse}
 use Rattle.rules.specs.Setting.{settingRefusal}
 use Rattle.rules.specs.Tested.{Accepted}
 use Rattle.rules.proofs.Accept.{accepted, number-none}
-use Rattle.refusal.specs.Tests.{shortTest, setupTest}
-use Rattle.refusal.proofs.Refusals.{orElse-first, orElse-second}
+use Rattle.lengths.specs.Lengths.{shortTest, setupTest}
+use Rattle.lengths.proofs.Order.{orElse-first, orElse-second}
 use borrow.Author.Needs.{needs}
-use Rattle.refusal.proofs.setup_refusal.Statement.{statement}
-use Rattle.refusal.proofs.setup_refusal.Tie as tie
+use Rattle.lengths.proofs.setup_refusal.Statement.{statement}
+use Rattle.lengths.proofs.setup_refusal.Tie as tie
 
 -- the setting is accepted
 ok : (c : tie.Else1) → let a = c .before .before .before .args in Accepted (a .m) (a .s) (a .seeds .now)
