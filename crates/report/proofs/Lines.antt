@@ -1,4 +1,4 @@
--- The text of a report, line by line.
+-- The text of each of the three kinds of reports, line by line.
 use Prim.Native.Nat.{ℕ, _≤_}
 use mathlib.Core.Path.{_≡_, sym, ap, _∙_}
 use mathlib.Core.List.{List, _++_}
@@ -8,14 +8,9 @@ use Rattle.io.specs.Counts.{Counts}
 use Rattle.tally.specs.declared.Report.{Report}
 use Rattle.tally.specs.declared.Report.the-variants.{Refused, Agrees, Differs}
 use Rattle.lines.specs.Bytes.{bytes}
-use Rattle.lines.specs.Lines.{lineOf, lineOfTwo}
-use Rattle.report.specs.Text.{countLines, textOf}
-
-pub counts-law : (records opened : ℕ) (t1 t2 : List ℕ) → t1 ≡ lineOf (bytes "records ") records → t2 ≡ t1 ++ lineOf (bytes "opened ") opened → t2 ≡ countLines records opened
-unfolding countLines
-counts-law records opened t1 t2 e1 e2 = e2 ∙ ap (λ (t : List ℕ). t ++ lineOf (bytes "opened ") opened) e1
-
--- ---- the three kinds of reports
+use Rattle.lines.specs.Lines.{lineOfTwo}
+use Rattle.count_lines.specs.Counts.{countLines}
+use Rattle.report.specs.Text.{textOf}
 
 pub refused-text : (report : Report) (number blocks : ℕ) (t : List ℕ) → report ≡ Refused number blocks → t ≡ lineOfTwo (bytes "refused ") number blocks → t ≡ textOf report
 unfolding textOf

@@ -3,7 +3,8 @@ use mathlib.Core.Path.{_≡_, refl}
 use Rattle.tally.specs.declared.Report.the-variants.{Refused, Agrees, Differs}
 use Rattle.lines.specs.Bytes.{bytes}
 use Rattle.lines.specs.Lines.{decimalFrom, decimalOf, lineOf, lineOfTwo}
-use Rattle.report.specs.Text.{countLines, textOf}
+use Rattle.count_lines.specs.Counts.{countLines}
+use Rattle.report.specs.Text.{textOf}
 
 pub four-records : textOf (Agrees 4 3) ≡ bytes "records 4\nopened 3\nagrees\n"
 unfolding textOf countLines lineOf decimalOf decimalFrom

@@ -1,23 +1,14 @@
 // The text of a report, in the words of document 01: lines of fixed byte strings and decimal numbers, in a buffer that the caller
 // lends. The text is proved to be the one of the definition, for every report.
+use count_lines::put_counts;
 use lines::put;
-use lines::put_line;
 use lines::put_line_of_two;
 use tally::Report;
 ghost use Prim.Native.Nat.{_≤_};
 ghost use mathlib.Core.Path.{_≡_};
 ghost use lib.ListN.{length, take};
 ghost use Rattle.io.specs.Counts.{Counts};
-ghost use Rattle.report.specs.Text.{countLines, textOf};
-
-// The two lines of a log that was judged.
-fn put_counts(out: &mut [u8], records: u64, opened: u64) -> usize
-    requires { ⌜ 128 ≤ length (now out) ⌝ }
-    ensures { λ r. ⌜ (r ≤ 57) × (take r (now (out .exit)) ≡ countLines records opened) ⌝ }
-{
-    let a = put_line(out, 0, b"records ", records);
-    put_line(out, a, b"opened ", opened)
-}
+ghost use Rattle.report.specs.Text.{textOf};
 
 // The text of a report at the start of the buffer. The answer is its length.
 // It rules out: `agrees` for a record that differs, a count under the other's word, the block and the place exchanged.

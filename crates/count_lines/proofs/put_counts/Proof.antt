@@ -1,9 +1,9 @@
 -- `put_counts` puts two lines.
 use native.Mathlib.Omega.{arith}
-use Rattle.report.proofs.Lines.{counts-law}
+use Rattle.count_lines.proofs.Laws.{counts-law}
 use borrow.Author.Needs.{needs}
-use Rattle.report.proofs.put_counts.Statement.{statement}
-use Rattle.report.proofs.put_counts.Tie as tie
+use Rattle.count_lines.proofs.put_counts.Statement.{statement}
+use Rattle.count_lines.proofs.put_counts.Tie as tie
 
 slice-aggregate-put-line : tie.Need-slice-aggregate-put-line
 slice-aggregate-put-line c = search needs
