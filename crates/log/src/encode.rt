@@ -1,11 +1,11 @@
 // The encoder, for C and for Rattle alike: block 0 from a setting and seeds, records put into a block, the block sealed.
 // A call that is refused gives a number and leaves the block as it was.
+use log_bytes::tests::and;
 use log_format::Entry;
-use log_read::tests::and;
-use log_write::block::frame;
-use log_write::contents::put_record;
-use log_write::contents::put_seeds;
-use log_write::contents::put_setting;
+use log_frame::frame;
+use log_start::put_seeds;
+use log_start::put_setting;
+use log_write::put_record;
 ghost use mathlib.Core.Path.{_≡_};
 ghost use Prim.Native.Nat.{_^_};
 ghost use lib.Dec.{ltb};

@@ -1,3 +1,3 @@
 // The log writer, for C and for Rattle: the calls that write a block of a log, and the tests of what the format can hold. The bytes
-// are stored by the crate `log_write`; the format is defined in the crate `log_format`.
+// are stored by the crates `log_start`, `log_write` and `log_frame`; the format is defined in the crate `log_format`.
 pub mod encode;

@@ -1,8 +1,8 @@
 // What a block holds: the setting and the seeds of block 0, the records of a later one.
-use crate::bytes::byte;
-use crate::bytes::word16;
-use crate::bytes::word32;
-use crate::bytes::word64;
+use log_bytes::read::byte;
+use log_bytes::read::word16;
+use log_bytes::read::word32;
+use log_bytes::read::word64;
 use log_format::Entry;
 use rules::Setting;
 ghost use mathlib.Core.Path.{_≡_};

@@ -1,86 +1,29 @@
 -- The refusals of a call, test by test.
-use Prim.Native.Nat.{ℕ, suc, _+_, _≤_, _<_}
-use mathlib.Core.Path.{_≡_, refl, sym, ap, _∙_, subst}
+use Prim.Native.Nat.{ℕ, _≤_, _<_}
+use mathlib.Core.Path.{_≡_, refl, sym, ap, _∙_}
 use mathlib.Core.Logic.{_≢_}
 use mathlib.Core.List.{List}
-use mathlib.Core.Bool.{Bool, true, false, not, _&&_, _||_}
+use mathlib.Core.Bool.{Bool, true, false, not, _||_}
 use native.Mathlib.Omega.{arith}
-use lib.Dec.{T, leb, ltb, nltb→le, nleb→lt}
-use borrow.Author.Tests.{le-ltb, eq-eqb, ne-eqb}
-use lib.ListN.{length, getD}
+use lib.Dec.{leb, ltb, nltb→le, nleb→lt}
+use lib.ListN.{length}
 use Rattle.rules.specs.declared.Setting.{Setting}
 use Rattle.rules.specs.declared.Limits.{Limits}
 use Rattle.rules.specs.declared.Head.{Head}
-use Rattle.rules.specs.Cells.{every}
 use Rattle.rules.specs.Answers.{Refusal, none, shortBuffer, badMemory, outsideSetting, refusalNumber, refuse, orElse}
 use Rattle.rules.specs.Setting.{historyLength, settingRefusal}
 use Rattle.rules.specs.State.{State, countersUsed, threadsUsed, tooShort}
-use Rattle.rules.specs.History.{notAfter, neverRises, memoryOk}
+use Rattle.rules.specs.History.{memoryOk}
 use Rattle.rules.specs.Tested.{Accepted}
 use Rattle.rules.specs.Calls.{setupRefusal, callRefusal, doneRefusal}
-use Rattle.rules.proofs.Tests.{every-at, every-all, is-false, is-true, not-or}
+use Rattle.rules.proofs.Tests.{not-or}
 use Rattle.rules.proofs.Accept.{number-none, first-refusal, orElse-none, refuse-none, accepted}
-use Rattle.refusal.specs.Tests.{shortTest, memoryTest, placeRefusal, setupTest, lentTest, callTest, doneTest}
-
--- ---- a test of every number below n, one by one
-
-pub every-none : (p : ℕ → Bool) → every 0 p ≡ true
-every-none p = refl
-
-pub every-more : (n : ℕ) (p : ℕ → Bool) → every n p ≡ true → p n ≡ true → every (n + 1) p ≡ true
-every-more n p a b = is-true (every (n + 1) p) (every-all (n + 1) p (λ i k. go i k))
-  where
-    go : (i : ℕ) → i < n + 1 → T (p i)
-    go i k = every-at (suc n) p (rw (a, b) tt) i (omega arith)
-
-pub every-stops : (n i : ℕ) (p : ℕ → Bool) → i < n → p i ≡ false → every n p ≡ false
-every-stops n i p h e = is-false (every n p) (go (every n p) refl)
-  where
-    go : (q : Bool) → every n p ≡ q → T (not q)
-    go true k = absurd (subst T e (every-at n p (subst T (sym k) tt) i h))
-    go false k = tt
-
--- the last of the lengths decides where the others are long enough
-pub short-last : (s : Setting) (counters ticks rows threads : ℕ) → countersUsed s ≤ counters → historyLength s ≤ ticks → historyLength s ≤ rows
-    → ltb threads (threadsUsed s) ≡ shortTest s counters ticks rows threads
-unfolding shortTest
-short-last s counters ticks rows threads a b c = rw (le-ltb counters (countersUsed s) a, le-ltb ticks (historyLength s) b, le-ltb rows (historyLength s) c)
-
--- ---- the memory
-
-module _ (s : Setting) (h : Head) (ticks : List ℕ) where
-  abbrev pub inRing : Bool
-  inRing = ltb (h .next) (historyLength s)
-
-  abbrev pub banksPast : Bool
-  banksPast = every (s .banks) (λ b. notAfter (h .last) (getD (h .bank) b 0))
-
-  abbrev pub rankPast : Bool
-  rankPast = every 4 (λ k. notAfter (h .last) (getD (h .rank) k 0))
-
-  abbrev pub historyOk : Bool
-  historyOk = every (historyLength s) (λ p. notAfter (h .last) (getD ticks p 0)) && neverRises (historyLength s) (h .next) ticks
-
-  tests : (a b c d e : Bool) → (a && b && c && d && e) ≡ (a && (b && (c && (d && e))))
-  tests true true true d e = refl
-  tests true true false d e = refl
-  tests true false c d e = refl
-  tests false b c d e = refl
-
-  pub memory-tests : memoryTest s h ticks ≡ (inRing && (banksPast && (rankPast && historyOk)))
-  unfolding memoryTest
-  memory-tests =
-      tests inRing banksPast rankPast (every (historyLength s) (λ p. notAfter (h .last) (getD ticks p 0))) (neverRises (historyLength s) (h .next) ticks)
+use Rattle.memory.specs.Memory.{memoryTest}
+use Rattle.lengths.specs.Lengths.{shortTest}
+use Rattle.refusal.specs.Tests.{placeRefusal, setupTest, lentTest, callTest, doneTest}
+pub use Rattle.lengths.proofs.Order.{orElse-first, orElse-second}
 
 -- ---- the order
-
--- the first refusal is given where there is one
-pub orElse-first : (a b : Refusal) → refusalNumber a ≢ 0 → orElse a b ≡ a
-orElse-first a b h = rw (ne-eqb (refusalNumber a) 0 h)
-
--- and else the second
-pub orElse-second : (a b : Refusal) → refusalNumber a ≡ 0 → orElse a b ≡ b
-orElse-second a b h = rw (eq-eqb (refusalNumber a) 0 h)
 
 -- a refusal and nothing after it
 pub orElse-nothing : (a : Refusal) → orElse a none ≡ a

@@ -1,88 +1,17 @@
 // Refusals 1 to 10 of the calls, in their order, for any limits of the setting. No function here knows the width of a filter counter.
 use memory::memory_ok;
 use rules::Limits;
-use rules::Setting;
 ghost use mathlib.Core.Path.{_≡_};
-ghost use Prim.Native.Nat.{_≤_, _<_, _^_};
-ghost use lib.Dec.{eqb};
-ghost use lib.ListN.{length, getD};
-ghost use Rattle.rules.specs.Answers.{none, noneInFlight, refusalNumber, refuse};
-ghost use Rattle.rules.specs.Setting.{settingOf, historyLength};
-ghost use Rattle.rules.specs.State.{threadsUsed, threadCell, headOf};
-ghost use Rattle.refusal.specs.Tests.{shortTest, placeRefusal, setupTest, lentTest, callTest, doneTest};
+ghost use Prim.Native.Nat.{_≤_, _^_};
+ghost use Rattle.rules.specs.Answers.{refusalNumber};
+ghost use Rattle.rules.specs.Setting.{settingOf};
+ghost use Rattle.rules.specs.State.{headOf};
+ghost use Rattle.refusal.specs.Tests.{lentTest, callTest, doneTest};
 
-pub mod memory;
-
-// Whether one of the buffers, given by its length, is too short.
-fn too_short(
-    s: Setting,
-    places: usize,
-    counters: usize,
-    ticks: usize,
-    rows: usize,
-    threads: usize,
-) -> bool
-    requires { ⌜ (s .banks ≤ 16) × (s .threads ≤ 32) × (places ≡ historyLength s) ⌝ }
-    ensures { λ r. ⌜ r ≡ shortTest s counters ticks rows threads ⌝ }
-{
-    if (counters as u64) < s.banks * 2048 {
-        return true;
-    }
-    if ticks < places {
-        return true;
-    }
-    if rows < places {
-        return true;
-    }
-    (threads as u64) < s.banks * s.threads * 3
-}
-
-// Refusals 1 to 6. Of the buffers it takes the lengths.
-pub fn setup_refusal(
-    m: Limits,
-    s: Setting,
-    seeds: &[u16],
-    counters: usize,
-    ticks: usize,
-    rows: usize,
-    threads: usize,
-) -> u32
-    requires { ⌜ m .threshold ≤ 2 ^ 20 ⌝ }
-    ensures { λ r. ⌜ r ≡ refusalNumber (setupTest m s (now (seeds .entry)) counters ticks rows threads) ⌝ }
-{
-    let code = setting::refusal(m, s, seeds);
-    if code != 0 {
-        return code;
-    }
-    if too_short(
-        s,
-        setting::history_length(s),
-        counters,
-        ticks,
-        rows,
-        threads,
-    ) {
-        6
-    } else {
-        0
-    }
-}
-
-// Refusals 8 and 9.
-pub fn place_refusal(s: Setting, last: u64, tick: u64, bank: u64, thread: u64) -> u32
-    ensures { λ r. ⌜ r ≡ refusalNumber (placeRefusal s last tick bank thread) ⌝ }
-{
-    if s.banks <= bank {
-        return 8;
-    }
-    if s.threads <= thread {
-        return 8;
-    }
-    if tick < last {
-        return 9;
-    }
-    if 4611686018427387904 <= tick { 9 } else { 0 }
-}
+// For callers that need no other test.
+pub use lengths::setup_refusal;
+pub use place::flying_refusal;
+pub use place::place_refusal;
 
 // Refusals 1 to 6 and, where the call keeps what the memory holds, 7. The setting and the head are read where the caller lent them. Of
 // counters, rows and thread counters it takes the lengths.
@@ -147,15 +76,6 @@ pub fn call_refusal(
         return code;
     }
     place_refusal(setting::load(setting), head[0], tick, bank, thread)
-}
-
-// Refusal 10.
-pub fn flying_refusal(s: Setting, threads: &[u32], bank: u64, thread: u64) -> u32
-    requires { ⌜ (bank < s .banks) × (thread < s .threads) × (s .banks ≤ 16) × (s .threads ≤ 32) × (threadsUsed s ≤ length (now threads)) ⌝ }
-    ensures { λ r. ⌜ r ≡ refusalNumber (refuse (eqb (getD (now (threads .entry)) (threadCell s bank thread 2) 0) 0) noneInFlight none) ⌝ }
-{
-    let flight = thread_counters::cell(s, bank, thread) + 2;
-    if threads[flight] == 0 { 10 } else { 0 }
 }
 
 // Refusals 1 to 10 of a done.

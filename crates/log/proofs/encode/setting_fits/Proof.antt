@@ -5,7 +5,7 @@ use native.Mathlib.Omega.{arith}
 use lib.Dec.{ltb}
 use lib.ListN.{getD}
 use Rattle.rules.specs.Cells.{every}
-use Rattle.log_read.proofs.Zeros.{every-more}
+use Rattle.log_bytes.proofs.Zeros.{every-more}
 use borrow.Author.Needs.{needs}
 use Rattle.log.proofs.encode.setting_fits.Statement.{statement}
 use Rattle.log.proofs.encode.setting_fits.Tie as tie
