@@ -19,7 +19,7 @@ use Rattle.log_format.specs.Verdict.{Running, refusedAfter, over, on, setUp, ju
 use Rattle.tally.specs.declared.Progress.{Progress}
 use Rattle.tally.specs.declared.Report.the-variants.{Refused}
 use Rattle.judge.specs.Follow.{running}
-use Rattle.checker_block.specs.Blocks.{JudgedBlock}
+use Rattle.checker_reading.specs.Blocks.{JudgedBlock}
 use Rattle.checker_records.proofs.Steps.{not-both}
 
 -- one block is read, and no record

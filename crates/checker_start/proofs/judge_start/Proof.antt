@@ -1,10 +1,10 @@
 -- `judge_start` takes setting and seeds from block 0 and sets the model up.
 use Rattle.rules.specs.State.{state}
-use Rattle.checker_block.specs.Blocks.{readSoFar}
-use Rattle.checker_block.proofs.Start.{start-judged}
+use Rattle.checker_reading.specs.Blocks.{readSoFar}
+use Rattle.checker_reading.proofs.Start.{start-judged}
 use borrow.Author.Needs.{needs}
-use Rattle.checker_block.proofs.judge_start.Statement.{statement}
-use Rattle.checker_block.proofs.judge_start.Tie as tie
+use Rattle.checker_start.proofs.judge_start.Statement.{statement}
+use Rattle.checker_start.proofs.judge_start.Tie as tie
 
 setting-requires : tie.Need-setting-requires
 setting-requires c κs = search needs

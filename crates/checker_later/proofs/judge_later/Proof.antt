@@ -1,10 +1,10 @@
 -- `judge_later` judges the records of a block and counts the block.
 use native.Mathlib.Omega.{arith}
 use Rattle.rules.specs.State.{state}
-use Rattle.checker_block.proofs.Blocks.{later-judged}
+use Rattle.checker_reading.proofs.Blocks.{later-judged}
 use borrow.Author.Needs.{needs}
-use Rattle.checker_block.proofs.judge_later.Statement.{statement}
-use Rattle.checker_block.proofs.judge_later.Tie as tie
+use Rattle.checker_later.proofs.judge_later.Statement.{statement}
+use Rattle.checker_later.proofs.judge_later.Tie as tie
 
 slice-aggregate-judge-records : tie.Need-slice-aggregate-judge-records
 slice-aggregate-judge-records c = search needs

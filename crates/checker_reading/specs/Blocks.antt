@@ -10,7 +10,7 @@ use Rattle.rules.specs.Tested.{Sound}
 use Rattle.rules.specs.State.{state}
 use Rattle.log_format.specs.Verdict.{Running, Step}
 use Rattle.tally.specs.declared.Report.{Report}
-use Rattle.checker_block.specs.declared.Reading.{Reading}
+use Rattle.checker_reading.specs.declared.Reading.{Reading}
 use Rattle.judge.specs.Follow.{running, Follows}
 
 -- a log that is read so far, with the four buffers of its model
