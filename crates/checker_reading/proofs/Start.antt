@@ -12,7 +12,7 @@ use Rattle.rules.specs.State.{State, fresh}
 use Rattle.rules.specs.Policy.{limits01, narrow}
 use Rattle.rules.specs.Calls.{setup, setupRefusal}
 use Rattle.rules.proofs.Step.{setup-code, setup-state}
-use Rattle.sound.specs.Told.{Begun}
+use Rattle.sound_told.specs.Told.{Begun}
 use Rattle.log_format.specs.Refusals.{model}
 use Rattle.log_format.specs.Contents.{settingIn, seedsIn}
 use Rattle.log_format.specs.Verdict.{Running, refusedAfter, over, on, setUp, judgeStart}
