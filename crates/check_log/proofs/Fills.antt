@@ -9,7 +9,7 @@ use Rattle.rules.specs.Policy.{limits01, narrow}
 use Rattle.log_format.specs.Verdict.{Running, over, memory, ended, judgeBlock, judgeBlocks, unread, verdict}
 use Rattle.tally.specs.declared.Report.{Report}
 use Rattle.judge.specs.Follow.{reportOf, Follows}
-use Rattle.checker_block.specs.Blocks.{JudgedBlock}
+use Rattle.checker_reading.specs.Blocks.{JudgedBlock}
 use Rattle.checker_records.proofs.Steps.{not-both}
 use Rattle.checker.proofs.Logs.{unread-blocks, over-verdict, on-verdict}
 use Rattle.input.specs.declared.Filled.{Filled}

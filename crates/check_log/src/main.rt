@@ -1,8 +1,8 @@
 // The program check_log: reads a log from standard input, a block of 512 bytes at a time, and writes the report of document 01.
 // It stops at the first event and reads no further block. The report is proved to be the verdict of some list of bytes, and what is written its
 // text. That these are the bytes of the input, in their order, is not proved: of what a read puts into the block nothing is promised.
-use checker_block::Next;
-use checker_block::Reading;
+use checker_reading::Next;
+use checker_reading::Reading;
 use input::Filled;
 use libc::STDOUT_FILENO;
 use tally::Report;
@@ -12,7 +12,7 @@ ghost use mathlib.Core.List.{List};
 ghost use Rattle.rules.specs.Policy.{narrow};
 ghost use Rattle.log_format.specs.Verdict.{verdict};
 ghost use Rattle.judge.specs.Follow.{reportOf};
-ghost use Rattle.checker_block.specs.Blocks.{readSoFar, Ready, JudgedBlock};
+ghost use Rattle.checker_reading.specs.Blocks.{readSoFar, Ready, JudgedBlock};
 ghost use Rattle.report.specs.Text.{textOf};
 ghost use Rattle.check_log.specs.Fills.{judgeFilled};
 

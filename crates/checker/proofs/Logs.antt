@@ -14,9 +14,9 @@ use Rattle.log_format.proofs.Steps.{blocks-step}
 use Rattle.tally.specs.declared.Progress.{Progress}
 use Rattle.tally.specs.declared.Report.{Report}
 use Rattle.tally.specs.declared.Report.the-variants.{Refused, Agrees}
-use Rattle.checker_block.specs.declared.Reading.{Reading}
+use Rattle.checker_reading.specs.declared.Reading.{Reading}
 use Rattle.judge.specs.Follow.{progressOf, reportOf, Follows}
-use Rattle.checker_block.specs.Blocks.{readSoFar, Ready, JudgedBlock}
+use Rattle.checker_reading.specs.Blocks.{readSoFar, Ready, JudgedBlock}
 use Rattle.checker_records.proofs.Steps.{not-both}
 use Rattle.rules.specs.declared.Head.{Head}
 use Rattle.rules.specs.Policy.{limits01, narrow}

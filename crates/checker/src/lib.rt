@@ -1,7 +1,7 @@
 // The log checker: a whole log in a slice of bytes, block by block, and what a caller that reads the blocks itself needs at both ends of
 // the input. A block is judged only through its contract; the report is proved to be the one of the log's definition of the verdict.
-use checker_block::Reading;
 use checker_block::judge_block;
+use checker_reading::Reading;
 use rules::Head;
 use rules::Setting;
 use tally::Progress;
@@ -15,7 +15,7 @@ ghost use Rattle.rules.specs.Policy.{limits01, narrow};
 ghost use Rattle.log_format.specs.Bytes.{blockAt};
 ghost use Rattle.log_format.specs.Verdict.{ended, unread, verdict};
 ghost use Rattle.judge.specs.Follow.{progressOf, reportOf};
-ghost use Rattle.checker_block.specs.Blocks.{readSoFar, Ready};
+ghost use Rattle.checker_reading.specs.Blocks.{readSoFar, Ready};
 
 // Before the first block. The buffers may hold anything, since block 0 sets the model up in them; 32,768 counters, 4,096 ticks and rows and
 // 1,536 thread counters are enough for every setting. The setting and the seeds are not looked at.

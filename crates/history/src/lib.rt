@@ -1,59 +1,18 @@
 // The history buffer: a ring of h places, lent as two slices. `ticks` holds stored ticks, that is the tick plus one, or 0
 // for none; `rows` holds row words. The next activation is written at place `next`, so the newest one lies before it.
+// The search stands here; the test of the stored ticks and the changes are exported again.
+use history_cells::place_before;
 ghost use mathlib.Core.Path.{_≡_};
-ghost use mathlib.Core.Bool.{true, _&&_, cond};
+ghost use mathlib.Core.Bool.{true, cond};
 ghost use Prim.Native.Nat.{_+_, _-_, _≤_, _<_, _^_};
-ghost use lib.Dec.{ltb, eqb};
-ghost use lib.ListN.{length, getD, set};
-ghost use Rattle.rules.specs.Cells.{every, clearCells};
-ghost use Rattle.rules.specs.History.{back, notAfter, neverRises, find};
-
-// ---- the test of the stored ticks
-
-// Whether a stored tick is not after the last tick.
-pub fn is_not_after(stored: u64, last: u64) -> bool
-    ensures { λ r. ⌜ r ≡ notAfter last stored ⌝ }
-{
-    if stored == 0 {
-        return true;
-    }
-    stored - 1 <= last
-}
-
-// The place before p in the ring; before the next place lies the newest one.
-fn place_before(h: usize, p: usize) -> usize
-    requires { ⌜ p < h ⌝ }
-    ensures { λ r. ⌜ (r ≡ back h p 0) × (r < h) ⌝ }
-{
-    if p == 0 { h - 1 } else { p - 1 }
-}
-
-// Whether no stored tick is after the last tick, and none rises from the newest place back. One pass is enough: where none
-// rises, the newest tick is the greatest. The cells from `next` on and those before it are two runs, each with its newest
-// cell last; the first cell of the run before `next` follows on the last cell of the other.
-// The quick test of `never_falls` accepts every block of cells that do not fall and lie less than 2^58 ticks apart, however large
-// they are. The exact scan runs only in a block with a fall or with a gap of 2^58 or more. In a call that is answered the ticks are
-// below 2^62, so there are at most 16 such gaps and at most 16 blocks are scanned, whatever h is.
-pub fn steady(ticks: &[u64], h: usize, next: usize, last: u64) -> bool
-    requires { ⌜ (next < h) × (h ≤ length (now ticks)) ⌝ }
-    ensures { λ r. ⌜ r ≡ (every h (λ p. notAfter last (getD (now (ticks .entry)) p 0)) && neverRises h next (now (ticks .entry))) ⌝ }
-{
-    let newest = place_before(h, next);
-    if !is_not_after(ticks[newest], last) {
-        return false;
-    }
-    if 0 < next {
-        if ticks[0] < ticks[h - 1] {
-            return false;
-        }
-        if !runs::never_falls(ticks, 0, next - 1) {
-            return false;
-        }
-    }
-    runs::never_falls(ticks, next, h - 1 - next)
-}
-
-// ---- the search
+ghost use lib.Dec.{eqb};
+ghost use lib.ListN.{length, getD};
+ghost use Rattle.rules.specs.Cells.{every};
+ghost use Rattle.rules.specs.History.{notAfter, neverRises, find};
+pub use history_cells::clear;
+pub use history_cells::record;
+pub use history_test::is_not_after;
+pub use history_test::steady;
 
 // The greatest stored tick that is td ticks old or more at tick t; 0, that is an empty place, where no tick is that old.
 fn old_limit(t: u64, td: u64) -> u64
@@ -113,42 +72,4 @@ pub fn delay_end(ticks: &[u64], found: usize, h: usize, td: u64) -> u64
         return 0;
     }
     ticks[found] - 1 + td
-}
-
-// ---- changes
-
-// Writes an activation of the row at tick t.
-pub fn record(ticks: &mut [u64], rows: &mut [u32], place: usize, t: u64, word: u32)
-    requires { ⌜ (place < length (now ticks)) × (place < length (now rows)) × (t < 2 ^ 62) ⌝ }
-    ensures { λ _. ⌜ (now (ticks .exit) ≡ set (now (ticks .entry)) place (t + 1)) × (now (rows .exit) ≡ set (now (rows .entry)) place word) ⌝ }
-{
-    ticks[place] = t + 1;
-    rows[place] = word;
-}
-
-fn clear_ticks(ticks: &mut [u64], h: usize)
-    requires { ⌜ h ≤ length (now ticks) ⌝ }
-    ensures { λ _. ⌜ now (ticks .exit) ≡ clearCells (λ i. ltb i h) (now (ticks .entry)) ⌝ }
-{
-    for i in 0..h {
-        ticks[i] = 0;
-    }
-}
-
-fn clear_rows(rows: &mut [u32], h: usize)
-    requires { ⌜ h ≤ length (now rows) ⌝ }
-    ensures { λ _. ⌜ now (rows .exit) ≡ clearCells (λ i. ltb i h) (now (rows .entry)) ⌝ }
-{
-    for i in 0..h {
-        rows[i] = 0;
-    }
-}
-
-// Empties the h places.
-pub fn clear(ticks: &mut [u64], rows: &mut [u32], h: usize)
-    requires { ⌜ (h ≤ length (now ticks)) × (h ≤ length (now rows)) ⌝ }
-    ensures { λ _. ⌜ (now (ticks .exit) ≡ clearCells (λ i. ltb i h) (now (ticks .entry))) × (now (rows .exit) ≡ clearCells (λ i. ltb i h) (now (rows .entry))) ⌝ }
-{
-    clear_ticks(ticks, h);
-    clear_rows(rows, h);
 }

@@ -13,7 +13,7 @@ use Rattle.rules.specs.State.{State}
 use Rattle.rules.specs.Policy.{narrow}
 use Rattle.rules.specs.Calls.{request, done, Reply, answered, finished, Outcome, returnCode, step}
 use Rattle.rules.specs.Tested.{Sound}
-use Rattle.sound.specs.Told.{Told, Over}
+use Rattle.sound_told.specs.Told.{Told, Over}
 use Rattle.log_format.specs.declared.Entry.{Entry}
 use Rattle.log_format.specs.Verdict.{Step, over, on, openedBy, counted, differsHere, judgeRecord}
 use Rattle.log_format.proofs.Records.{outcomeOf}

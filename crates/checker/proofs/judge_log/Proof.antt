@@ -7,7 +7,7 @@ use lib.Dec.{eqb}
 use lib.ListN.{length}
 use Rattle.log_format.specs.Verdict.{Running, memory}
 use Rattle.judge.specs.Follow.{reportOf}
-use Rattle.checker_block.specs.Blocks.{readSoFar}
+use Rattle.checker_reading.specs.Blocks.{readSoFar}
 use Rattle.checker.proofs.Logs.{start-memory, Through, through-none, through-more, through-over, through-all, of-bytes}
 use borrow.Author.Needs.{needs}
 use Rattle.checker.proofs.judge_log.Statement.{statement}

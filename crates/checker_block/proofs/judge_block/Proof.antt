@@ -5,8 +5,8 @@ use native.Mathlib.Omega.{arith}
 use Rattle.log_format.specs.Refusals.{logRefusalNumber}
 use Rattle.log_format.specs.Blocks.{blockRefusal}
 use Rattle.log_format.specs.Verdict.{Running}
-use Rattle.checker_block.specs.Blocks.{readSoFar}
-use Rattle.checker_block.proofs.Blocks.{block-refused, block-started, block-later, block-count}
+use Rattle.checker_reading.specs.Blocks.{readSoFar}
+use Rattle.checker_reading.proofs.Blocks.{block-refused, block-started, block-later, block-count}
 use borrow.Author.Needs.{needs}
 use Rattle.checker_block.proofs.judge_block.Statement.{statement}
 use Rattle.checker_block.proofs.judge_block.Tie as tie

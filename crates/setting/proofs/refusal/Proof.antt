@@ -11,7 +11,7 @@ use Rattle.rules.specs.declared.Limits.{Limits}
 use Rattle.rules.specs.Answers.{none, longHistory, aboveLimit, refuse}
 use Rattle.rules.specs.Setting.{historyLength, rowBound, settingRefusal}
 use Rattle.rules.specs.Tested.{Ranges}
-use Rattle.setting.proofs.Laws.{inRange, in-ranges}
+use Rattle.setting.proofs.Ranges.{inRange, in-ranges}
 use borrow.Author.Needs.{needs}
 use Rattle.setting.proofs.refusal.Statement.{statement}
 use Rattle.setting.proofs.refusal.Tie as tie

@@ -12,7 +12,7 @@ use Rattle.rules.specs.Calls.{finished, Outcome, outcome, callRefusal, doneRefu
 use Rattle.rules.proofs.Accept.{taken, done-taken, number-none}
 use Rattle.calls.proofs.Requests.{narrow-widest, bounds}
 use Rattle.calls.proofs.Flying.{some-flying}
-use Rattle.sound.proofs.Tells.{place-only, done-first, done-last, over-refused, over-taken, done-parts, done-sound, flying-ten}
+use Rattle.sound_told.proofs.Tells.{place-only, done-first, done-last, over-refused, over-taken, done-parts, done-sound, flying-ten}
 use borrow.Author.Needs.{needs}
 use Rattle.sound.proofs.done.Statement.{statement}
 use Rattle.sound.proofs.done.Tie as tie

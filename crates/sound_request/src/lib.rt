@@ -1,0 +1,68 @@
+// A request for callers in Rattle, on a state that passed the tests of refusals 1 to 7, which it keeps. Only bank, thread and tick are tested.
+use refusal::place_refusal;
+use rules::Answer;
+use rules::Head;
+use rules::Setting;
+ghost use mathlib.Core.Path.{_≡_};
+ghost use Rattle.rules.specs.Answers.{none};
+ghost use Rattle.rules.specs.Setting.{settingRefusal};
+ghost use Rattle.rules.specs.State.{state};
+ghost use Rattle.rules.specs.Policy.{limits01, narrow};
+ghost use Rattle.rules.specs.Tested.{Sound};
+ghost use Rattle.rules.specs.Calls.{request, step};
+ghost use Rattle.sound_told.specs.Told.{Told};
+
+// What a request gives: 0 and the answer, or the number of a refusal and an answer that says nothing; and the head after it.
+pub struct Replied {
+    pub code: u32,
+    pub answer: Answer,
+    pub head: Head,
+}
+
+pub fn request(
+    s: Setting,
+    seeds: &[u16],
+    h: Head,
+    counters: &mut [u16],
+    ticks: &mut [u64],
+    rows: &mut [u32],
+    threads: &mut [u32],
+    tick: u64,
+    bank: u64,
+    thread: u64,
+    row: u16,
+) -> Replied
+    requires { ⌜ (settingRefusal limits01 s (now seeds) ≡ none) × Sound s (state h (now counters) (now ticks) (now rows) (now threads)) ⌝ }
+    ensures { λ r. ⌜ Told s (r .code) (r .answer) (state (r .head) (now (counters .exit)) (now (ticks .exit)) (now (rows .exit)) (now (threads .exit))) (step narrow s (now (seeds .entry)) (state h (now (counters .entry)) (now (ticks .entry)) (now (rows .entry)) (now (threads .entry))) (request tick bank thread row)) ⌝ }
+{
+    let code = place_refusal(s, h.last, tick, bank, thread);
+    if code != 0 {
+        return Replied {
+            code,
+            answer: Answer::Quota,
+            head: h,
+        };
+    }
+    let banks = h.bank;
+    let d = calls::request(
+        s,
+        seeds,
+        h,
+        banks[bank as usize],
+        counters,
+        ticks,
+        rows,
+        threads,
+        tick,
+        bank,
+        thread,
+        row,
+    );
+    let answer = d.answer;
+    let head = d.head;
+    Replied {
+        code: 0,
+        answer,
+        head,
+    }
+}

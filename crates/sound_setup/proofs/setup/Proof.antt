@@ -1,0 +1,87 @@
+-- `setup` is refused as the rules say, or clears the used parts.
+use mathlib.Core.Path.{_≡_, sym, ap, _∙_}
+use native.Mathlib.Omega.{arith}
+use lib.ListN.{length}
+use Rattle.rules.specs.Answers.{none, refusalNumber}
+use Rattle.rules.specs.State.{State, state, fresh}
+use Rattle.rules.specs.Policy.{limits01}
+use Rattle.rules.specs.Tested.{SetUp}
+use Rattle.rules.specs.Calls.{setupRefusal}
+use Rattle.rules.proofs.Accept.{set-up, number-none}
+use Rattle.refusal.specs.Tests.{setupTest}
+use Rattle.refusal.proofs.Refusals.{setup-test}
+use Rattle.calls.proofs.Requests.{narrow-widest, bounds}
+use Rattle.sound_told.proofs.Tells.{begun-refused, begun-taken}
+use borrow.Author.Needs.{needs}
+use Rattle.sound_setup.proofs.setup.Statement.{statement}
+use Rattle.sound_setup.proofs.setup.Tie as tie
+
+abbrev entry : tie.Start → State
+entry c = let a = c .args in state (a .h) (a .counters .now) (a .ticks .now) (a .rows .now) (a .threads .now)
+
+-- the code is the number of the rules' refusal
+code-is : (c : tie.After-setup-refusal) → let start = c .before .before .before .before .before .before .before in c .setup-refusal .result ≡ refusalNumber (setupRefusal limits01 (start .args .s) (start .args .seeds .now) (entry start))
+code-is c =
+    let start = c .before .before .before .before .before .before .before in
+    let a = start .args in
+    c .setup-refusal .ensures
+    ∙ ap (λ m. refusalNumber (setupTest m (a .s) (a .seeds .now) (length (a .counters .now)) (length (a .ticks .now)) (length (a .rows .now)) (length (a .threads .now)))) (c .before .narrow-limits .ensures)
+    ∙ ap refusalNumber (sym (setup-test limits01 (a .s) (a .seeds .now) (entry start)))
+
+taken : (c : tie.Else1) → let start = c .before .before .before .before .before .before .before .before in setupRefusal limits01 (start .args .s) (start .args .seeds .now) (entry start) ≡ none
+taken c = number-none _ (sym (code-is (c .before)) ∙ c .if1 .left)
+
+ok : (c : tie.Else1) → let start = c .before .before .before .before .before .before .before .before in SetUp limits01 (start .args .s) (start .args .seeds .now) (entry start)
+ok c =
+    let start = c .before .before .before .before .before .before .before .before in
+    set-up limits01 (start .args .s) (start .args .seeds .now) (entry start) (taken c)
+
+narrow-limits-requires : tie.Need-narrow-limits-requires
+narrow-limits-requires c κs = search needs
+
+setup-refusal-requires : tie.Need-setup-refusal-requires
+setup-refusal-requires c κs = rw (c .narrow-limits .ensures) (omega arith)
+
+returns : tie.Need-returns
+returns c =
+    let start = c .before .before .before .before .before .before .before .before in
+    begun-refused (start .args .s) (start .args .seeds .now) (entry start) (c .before .setup-refusal .result) (code-is (c .before)) (c .if1 .taken)
+
+fresh-requires : tie.Need-fresh-requires
+fresh-requires c κs =
+    let k = ok (c .before .before .before .before) in
+    (bounds narrow-widest (k .setting), record { counters = k .long .counters; ticks = k .long .ticks; rows = k .long .rows; threads = k .long .threads })
+
+same-length : tie.Need-same-length
+same-length c = search needs
+
+same-length-2 : tie.Need-same-length-2
+same-length-2 c = search needs
+
+same-length-3 : tie.Need-same-length-3
+same-length-3 c = search needs
+
+same-length-4 : tie.Need-same-length-4
+same-length-4 c = search needs
+
+returns-2 : tie.Need-returns-2
+unfolding fresh
+returns-2 c =
+    let start = c .before .before .before .before .before .before .before .before .before .before .before .before .before .before .before .before .before .before .before .before .before in
+    let at-fresh = c .before .before .before .before .before .before .before .before in
+    let q = at-fresh .fresh .last in
+    begun-taken (start .args .s) (start .args .seeds .now) (entry start) (state (at-fresh .fresh .result) (q .1 .0) (q .1 .1 .0) (q .1 .1 .1 .0) (q .1 .1 .1 .1 .0)) (taken (c .before .before .before .before .before .before .before .before .before .before .before .before .before)) (at-fresh .fresh .ensures)
+
+pub setup-spec : {M : Type 1} → statement M
+setup-spec =
+    tie.close
+    (tie.spec
+    narrow-limits-requires
+    setup-refusal-requires
+    returns
+    fresh-requires
+    same-length
+    same-length-2
+    same-length-3
+    same-length-4
+    returns-2)

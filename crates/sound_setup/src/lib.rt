@@ -1,0 +1,41 @@
+// Set-up for callers in Rattle that own their memory. Where it is not refused, the state passes the tests of refusals 1 to 7.
+use refusal::setup_refusal;
+use rules::Head;
+use rules::Setting;
+ghost use Rattle.rules.specs.State.{state};
+ghost use Rattle.rules.specs.Policy.{limits01};
+ghost use Rattle.rules.specs.Calls.{setup};
+ghost use Rattle.sound_told.specs.Told.{Begun};
+
+// What set-up gives: 0 or the number of a refusal, and the head after it.
+pub struct Started {
+    pub code: u32,
+    pub head: Head,
+}
+
+pub fn setup(
+    s: Setting,
+    seeds: &[u16],
+    h: Head,
+    counters: &mut [u16],
+    ticks: &mut [u64],
+    rows: &mut [u32],
+    threads: &mut [u32],
+) -> Started
+    ensures { λ r. ⌜ Begun s (now (seeds .entry)) (r .code) (state (r .head) (now (counters .exit)) (now (ticks .exit)) (now (rows .exit)) (now (threads .exit))) (setup limits01 s (now (seeds .entry)) (state h (now (counters .entry)) (now (ticks .entry)) (now (rows .entry)) (now (threads .entry)))) ⌝ }
+{
+    let code = setup_refusal(
+        setting::narrow_limits(),
+        s,
+        seeds,
+        counters.len(),
+        ticks.len(),
+        rows.len(),
+        threads.len(),
+    );
+    if code != 0 {
+        return Started { code, head: h };
+    }
+    let head = narrow::fresh(s, counters, ticks, rows, threads);
+    Started { code: 0, head }
+}
