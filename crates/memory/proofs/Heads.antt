@@ -14,8 +14,8 @@ use Rattle.rules.specs.Setting.{historyLength}
 use Rattle.rules.specs.History.{notAfter, neverRises}
 use Rattle.rules.proofs.Tests.{and-assoc, every-same}
 use Rattle.rules.proofs.Cells.{getD-cells}
-use Rattle.head.specs.Words.{wordsPast}
-use Rattle.head.proofs.Ticks.{one}
+use Rattle.head_ticks.specs.Words.{wordsPast}
+use Rattle.head_ticks.proofs.Ticks.{one}
 use Rattle.memory.specs.Memory.{memoryTest}
 
 -- ---- the tests of the memory, in their order

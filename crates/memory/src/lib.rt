@@ -1,5 +1,5 @@
 // The test of refusal 7: the next place, the head's stored ticks and the history ticks. The head is read in the caller's 22 words.
-use head::head_past;
+use head_ticks::head_past;
 use rules::Setting;
 ghost use mathlib.Core.Path.{_≡_};
 ghost use Prim.Native.Nat.{_≤_};

@@ -1,8 +1,8 @@
 // The text of a report, in the words of document 01: lines of fixed byte strings and decimal numbers, in a buffer that the caller
 // lends. The text is proved to be the one of the definition, for every report.
-use count_lines::put_counts;
-use lines::put;
-use lines::put_line_of_two;
+use report_counts::put_counts;
+use report_lines::put;
+use report_lines::put_line_of_two;
 use tally::Report;
 ghost use Prim.Native.Nat.{_≤_};
 ghost use mathlib.Core.Path.{_≡_};
