@@ -47,7 +47,7 @@ struct throttle_setting {
     uint64_t n;       /* blacklisting threshold N: 1 to 32,768 */
     uint64_t td;      /* delay tD of a blacklisted row: 1 to 2^29 */
     uint64_t l;       /* most activations L of a row in W ticks: 1 to 2^24 */
-    uint64_t q;       /* most requests Q in flight for a thread in a bank: 1 to 255 */
+    uint64_t q;       /* most requests Q in flight for a thread, over all banks: 1 to 255 */
     uint64_t banks;   /* 1 to 16, each of 65,536 rows */
     uint64_t threads; /* 1 to 32 */
 };
@@ -130,6 +130,7 @@ static inline void throttle_house_seeds(uint16_t seeds[THROTTLE_SEEDS])
  *   rows[place]     bank * 65,536 + row of that activation
  *   threads[(bank * number of threads + thread) * 3 + k]
  *                   k 0 and 1: index counters of filter 0 and 1, k 2: in flight
+ *                   in that bank
  * A stored tick is the tick plus one, 0 means none. The last tick is stored as
  * it is. Copying all five copies the state; the copy goes on by itself.
  */
@@ -201,7 +202,7 @@ enum throttle_answer {
     THROTTLE_WAIT_BANK = 1, /* under tRC ticks since the bank's last activation */
     THROTTLE_WAIT_RANK = 2, /* under tFAW ticks since the rank's fourth last activation */
     THROTTLE_WAIT_ROW = 3,  /* the row is blacklisted and was activated under tD ticks ago */
-    THROTTLE_QUOTA = 4      /* the thread has its quota in flight in this bank, or its quota is 0 */
+    THROTTLE_QUOTA = 4      /* the thread has its quota in flight, over all banks */
 };
 
 /*
@@ -277,8 +278,9 @@ uint32_t throttle_setup(const uint64_t setting[9], const uint16_t *seeds, size_t
  * again then; the answer may be another wait if other requests were opened
  * in between, or quota.
  *
- * 4: out[1] is 0. There is no tick to wait for: ask again after a done of this
- * thread in this bank, or in the next epoch.
+ * 4: out[1] is 0. The quota is that of this bank (throttle_index), what is in
+ * flight the thread's total over all banks. There is no tick to wait for: ask
+ * again after a done of this thread in any bank, or in the next epoch.
  *
  * 0: out[1] is 0. The activation is counted, stands in the history and is in
  * flight until throttle_done. Nothing else adds to the state; a wait or a
@@ -299,7 +301,8 @@ uint32_t throttle_request(const uint64_t setting[9], const uint16_t *seeds, size
 
 /*
  * Reports that one of the thread's activations in the bank is finished: moves
- * the clock and takes 1 from in flight.
+ * the clock and takes 1 from in flight, of the bank and so of the thread's
+ * total. It is refused with 10 if that bank has none, whatever the total.
  */
 THROTTLE_CHECKED
 uint32_t throttle_done(const uint64_t setting[9], const uint16_t *seeds, size_t seeds_len,

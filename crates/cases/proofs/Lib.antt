@@ -1,3 +1,4 @@
 pub mod Numbers
 pub mod Rounding
+pub mod Totals
 pub mod Tables

@@ -1,3 +1,4 @@
 pub mod Cases
 pub mod Rounding
+pub mod Totals
 pub mod Tables

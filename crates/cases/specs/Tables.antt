@@ -4,6 +4,7 @@ use mathlib.Core.List.{[], _∷_}
 use Rattle.rules.specs.Policy.{document01, narrow}
 use Rattle.cases.specs.Cases.{Numbers, Cases, run, opened, waitRow, toTick8, flying}
 use Rattle.cases.specs.Rounding.{Rounded}
+use Rattle.cases.specs.Totals.{Totals}
 
 pub record Tables : Type 0 where
   pub numbers : Numbers
@@ -14,3 +15,5 @@ pub record Tables : Type 0 where
   pub three : flying document01 ≡ 3
   -- the same line of the rules in force, and the other cases of document 02, d
   pub rounded : Rounded
+  -- the cases of document 02, b
+  pub totals : Totals

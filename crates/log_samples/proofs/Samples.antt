@@ -16,7 +16,7 @@ use Rattle.rules.specs.Clock.{turnedCounters, turnedThreads, movedHead, turned}
 use Rattle.rules.specs.Hash.{hash, places}
 use Rattle.rules.specs.Filter.{estimate, raised, named, counted}
 use Rattle.rules.specs.History.{nextPlace, back, neverRises, memoryOk, rowFree}
-use Rattle.rules.specs.Quota.{halfEven, quotaEven}
+use Rattle.rules.specs.Quota.{halfEven, quotaEven, inFlightTotal}
 use Rattle.rules.specs.Decision.{passesAt, waitTick, decide, activatedHead, activatedThreads, activated}
 use Rattle.rules.specs.Calls.{Reply, answered, activations, setupRefusal, callRefusal, doneRefusal, unlessRefused, requested, reported, step}
 use Rattle.log_format.specs.Bytes.{little, bytesOf, zeros, blockAt}
@@ -48,7 +48,7 @@ said : List Reply
 said = answered Opened ∷ answered Opened ∷ answered (Wait Row 7) ∷ answered Opened ∷ []
 
 said-is : rulesSay narrow S house records ≡ said
-unfolding records said settingOf house historyLength rowBound fieldsInRange seedsInRange settingRefusal tooShort freshHead fresh turnedCounters turnedThreads movedHead turned hash places estimate raised named counted nextPlace back neverRises memoryOk rowFree halfEven quotaEven passesAt waitTick decide activatedHead activatedThreads activated setupRefusal callRefusal doneRefusal unlessRefused requested reported step memory
+unfolding records said settingOf house historyLength rowBound fieldsInRange seedsInRange settingRefusal tooShort freshHead fresh turnedCounters turnedThreads movedHead turned hash places estimate raised named counted nextPlace back neverRises memoryOk rowFree halfEven quotaEven inFlightTotal passesAt waitTick decide activatedHead activatedThreads activated setupRefusal callRefusal doneRefusal unlessRefused requested reported step memory
 said-is = refl
 
 four : verdict narrow (logS (asks 0 0 0 ∷ asks 1 0 0 ∷ asks 2 3 7 ∷ asks 7 0 0 ∷ [])) ≡ judged 4 3 agrees
@@ -72,5 +72,5 @@ start : verdict narrow (logS []) ≡ judged 0 0 agrees
 start = agreeing [] tt (omega arith) tt
 
 pub cases : Cases
-unfolding house historyLength rowBound fieldsInRange seedsInRange settingRefusal tooShort freshHead fresh turnedCounters turnedThreads movedHead turned hash places estimate raised named counted nextPlace back neverRises memoryOk rowFree halfEven quotaEven passesAt waitTick decide activatedHead activatedThreads activated setupRefusal callRefusal doneRefusal unlessRefused requested reported step little bytesOf zeros blockAt settingIn halves seedsIn entryIn sumTo weightedTo checked startLaidOut recordLaidOut recordsLaidOut inTurn laidOut blockRefusal claims judgeRecord judgeRecords memory judgeStart judgeLater judgeSound judgeBlock judgeBlocks unread verdict recordBytes putRecord headed padded summed framed numbersBytes putStart putRecords recordsBlock startBlock laterBlocks logBytesOver logS
+unfolding house historyLength rowBound fieldsInRange seedsInRange settingRefusal tooShort freshHead fresh turnedCounters turnedThreads movedHead turned hash places estimate raised named counted nextPlace back neverRises memoryOk rowFree halfEven quotaEven inFlightTotal passesAt waitTick decide activatedHead activatedThreads activated setupRefusal callRefusal doneRefusal unlessRefused requested reported step little bytesOf zeros blockAt settingIn halves seedsIn entryIn sumTo weightedTo checked startLaidOut recordLaidOut recordsLaidOut inTurn laidOut blockRefusal claims judgeRecord judgeRecords memory judgeStart judgeLater judgeSound judgeBlock judgeBlocks unread verdict recordBytes putRecord headed padded summed framed numbersBytes putStart putRecords recordsBlock startBlock laterBlocks logBytesOver logS
 cases = record { four = four; start = start; wait8 = refl; empty = refl }

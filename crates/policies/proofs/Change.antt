@@ -17,7 +17,7 @@ use Rattle.log_format.specs.Verdict.{agrees, judged, claims, memory, verdict}
 use Rattle.log_format.specs.Claims.{callsOf, recordsOf, settingOfLog, seedsOfLog, laterOf, rulesOpen, Decision, Decided, Faithful}
 use Rattle.log_format.proofs.Records.{claims-true, true-claims, DecidedFrom, decided-append}
 use Rattle.log_format.proofs.Agrees.{only-if, whenever}
-use Rattle.policies.specs.Claims.{saidOf, differsAfter, FirstDifferent, Becomes, AfterChange, roundedDown, roundedEven, AfterRounding, SinceDocument01}
+use Rattle.policies.specs.Claims.{saidOf, differsAfter, FirstDifferent, Becomes, AfterChange, roundedDown, roundedEven, AfterRounding, ofBank, ofThread, AfterTotal, SinceDocument01}
 use Rattle.policies.proofs.Lists.{same-first, same-others, same-cons}
 use Rattle.policies.proofs.Differs.{replies-last, differs-at-first}
 use Rattle.policies.proofs.Same.{step-state, after-same, never-refuses, decided-same}
@@ -167,6 +167,9 @@ after-change p q e bytes r o h = subst (λ (x : Policy). Becomes p x bytes r o) 
 
 pub after-rounding : AfterRounding
 after-rounding m flying = after-change (roundedDown m flying) (roundedEven m flying) refl
+
+pub after-total : AfterTotal
+after-total m quota = after-change (ofBank m quota) (ofThread m quota) refl
 
 pub since-document01 : SinceDocument01
 since-document01 = after-change document01 narrow refl

@@ -1,8 +1,14 @@
 -- All that is claimed of logs when the rules change, proved.
 use Rattle.policies.specs.Claims.{Theorems}
 use Rattle.policies.proofs.Differs.{differs-at-first}
-use Rattle.policies.proofs.Change.{after-change, after-rounding, since-document01}
+use Rattle.policies.proofs.Change.{after-change, after-rounding, after-total, since-document01}
 
 pub theorems : Theorems
 theorems =
-    record { differsAtFirst = differs-at-first; afterChange = after-change; afterRounding = after-rounding; sinceDocument01 = since-document01 }
+    record {
+      differsAtFirst = differs-at-first;
+      afterChange = after-change;
+      afterRounding = after-rounding;
+      afterTotal = after-total;
+      sinceDocument01 = since-document01;
+    }

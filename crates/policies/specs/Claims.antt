@@ -10,7 +10,7 @@ use Rattle.rules.specs.declared.Setting.{Setting}
 use Rattle.rules.specs.declared.Limits.{Limits}
 use Rattle.rules.specs.Answers.{Refusal, none}
 use Rattle.rules.specs.Setting.{settingRefusal}
-use Rattle.rules.specs.Quota.{quotaDown, quotaEven}
+use Rattle.rules.specs.Quota.{quotaDown, quotaEven, inFlightHere, inFlightTotal}
 use Rattle.rules.specs.Policy.{Policy, document01, narrow}
 use Rattle.rules.specs.Calls.{Reply, refused}
 use Rattle.log_format.specs.declared.Entry.{Entry}
@@ -89,6 +89,28 @@ AfterRounding =
     (m : Limits) (flying : InFlight) (bytes : List ℕ) (r o : ℕ) → verdict (roundedDown m flying) bytes ≡ judged r o agrees
     → Becomes (roundedDown m flying) (roundedEven m flying) bytes r o
 
+-- ---- request b
+
+-- a rule of the quota
+abbrev pub QuotaRule : Type 0
+QuotaRule = Setting → ℕ → ℕ
+
+-- the policies in which in flight is the named bank's own count, as document 01 has it, and the thread's total over all banks
+abbrev pub ofBank : Limits → QuotaRule → Policy
+ofBank m quota = record { limits = m; quota = quota; inFlight = inFlightHere }
+
+abbrev pub ofThread : Limits → QuotaRule → Policy
+ofThread m quota = record { limits = m; quota = quota; inFlight = inFlightTotal }
+
+-- "Logs are judged by the new total.": a log that agreed by the bank's own count differs at the first entry that count and total decide differently, and
+-- agrees if there is none. With `quotaEven` and document 01's limits these are the rules before request b and those in force.
+abbrev pub AfterTotal : Type 0
+AfterTotal =
+    (m : Limits) (quota : QuotaRule) (bytes : List ℕ) (r o : ℕ) → verdict (ofBank m quota) bytes ≡ judged r o agrees
+    → Becomes (ofBank m quota) (ofThread m quota) bytes r o
+
+-- ---- since document 01
+
 -- the same of logs of document 01's rules and the rules in force
 abbrev pub SinceDocument01 : Type 0
 SinceDocument01 = (bytes : List ℕ) (r o : ℕ) → verdict document01 bytes ≡ judged r o agrees → Becomes document01 narrow bytes r o
@@ -99,4 +121,5 @@ pub record Theorems : Type 0 where
   pub differsAtFirst : (p : Policy) → DiffersAtFirst p
   pub afterChange : (p q : Policy) → AfterChange p q
   pub afterRounding : AfterRounding
+  pub afterTotal : AfterTotal
   pub sinceDocument01 : SinceDocument01

@@ -34,17 +34,17 @@ number-none outsideSetting e = absurd (omega arith)
 number-none badTick e = absurd (omega arith)
 number-none noneInFlight e = absurd (omega arith)
 
+pub not-zero : (n : ℕ) → T (not (eqb n 0)) → 0 < n
+not-zero zero h = absurd h
+not-zero (suc n) h = omega arith
+
 -- what holds of the later refusal where the earlier one is none, and of the earlier one where it has a number, holds of the first of the two
 pub first-refusal : (P : Refusal → Type 0) (a b : Refusal) → (a ≡ none → P b) → (0 < refusalNumber a → P a) → P (orElse a b)
 first-refusal P a b f g = go (eqb (refusalNumber a) 0) refl
   where
-    some : (n : ℕ) → T (not (eqb n 0)) → 0 < n
-    some zero h = absurd h
-    some (suc n) h = omega arith
-
     go : (q : Bool) → eqb (refusalNumber a) 0 ≡ q → P (cond q b a)
     go true e = f (number-none a (eqb→eq (refusalNumber a) 0 (holds (eqb (refusalNumber a) 0) e)))
-    go false e = g (some (refusalNumber a) (fails (eqb (refusalNumber a) 0) e))
+    go false e = g (not-zero (refusalNumber a) (fails (eqb (refusalNumber a) 0) e))
 
 pub orElse-none : (a b : Refusal) → orElse a b ≡ none → (a ≡ none) × (b ≡ none)
 orElse-none a b e = first-refusal (λ x. x ≡ none → (a ≡ none) × (b ≡ none)) a b (λ z y. (z, y)) (λ h y. absurd (omega (arith, ap refusalNumber y))) e

@@ -6,13 +6,14 @@ use mathlib.Core.Bool.{Bool, true, false, not, _&&_}
 use Prim.Native.Nat.{ℕ, _+_, _/_, _%_, _≤_, _<_}
 use native.Mathlib.Omega.{arith}
 use native.Mathlib.Nat.{le-refl}
-use lib.Dec.{T, ltb, eqb, T-not, not-T}
+use lib.Dec.{T, ltb, eqb, T-not, not-T, ltb→lt}
 use lib.ListN.{length, getD}
 use borrow.Author.Tests.{lt-ltb, le-ltb, eq-eqb, ne-eqb}
+use Rattle.rules.specs.declared.Setting.{Setting}
 use Rattle.rules.specs.Cells.{clearCells}
-use Rattle.rules.specs.State.{counterCell}
+use Rattle.rules.specs.State.{threadsUsed, counterCell, threadCell}
 use Rattle.rules.specs.Clock.{clears, turnedCounters, turnedThreads}
-use Rattle.rules.proofs.Tests.{and-r, and-true, and-assoc, fails}
+use Rattle.rules.proofs.Tests.{and-l, and-r, and-true, and-assoc, fails}
 use Rattle.rules.proofs.Clearing.{length-clear, clear-kept, clear-none, clear-same}
 
 -- ---- the filters that are cleared
@@ -87,3 +88,23 @@ unfolding turnedThreads
 turned-index used e e′ ts =
     clear-same (λ i. ltb i used && ltb (i % 3) 2 && clears e e′ (i % 3)) (λ i. ltb i used && (ltb (i % 3) 2 && clears e e′ (i % 3)))
     (λ i. and-assoc (ltb i used) (ltb (i % 3) 2) (clears e e′ (i % 3))) ts
+
+-- a turn keeps what is in flight
+pub turned-flying : (s : Setting) (bank thread e e′ : ℕ) (ts : List ℕ)
+    → getD (turnedThreads (threadsUsed s) e e′ ts) (threadCell s bank thread 2) 0 ≡ getD ts (threadCell s bank thread 2) 0
+unfolding turnedThreads
+turned-flying s bank thread e e′ ts =
+    clear-kept (λ i. ltb i (threadsUsed s) && (ltb (i % 3) 2 && clears e e′ (i % 3))) (threadCell s bank thread 2) ts stays
+  where
+    in-used : Bool
+    in-used = ltb (threadCell s bank thread 2) (threadsUsed s)
+
+    counter : Bool
+    counter = ltb (threadCell s bank thread 2 % 3) 2
+
+    cleared : Bool
+    cleared = clears e e′ (threadCell s bank thread 2 % 3)
+
+    stays : T (not (in-used && (counter && cleared)))
+    stays = not-T (in-used && (counter && cleared)) (λ q.
+        omega (arith, ltb→lt (threadCell s bank thread 2 % 3) 2 (and-l counter cleared (and-r in-used (counter && cleared) q))))

@@ -19,6 +19,7 @@ pub mod Step
 pub mod Demand
 pub mod Sound
 pub mod Rounding
+pub mod Sums
 pub mod Regular
 pub mod Fits
 pub mod First

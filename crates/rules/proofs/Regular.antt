@@ -1,20 +1,18 @@
--- The rules in force: the quota rounds as document 02, d, says, is at most 255, and is Q while the index counter is 0; in flight is never fewer
--- than the named bank's own.
-use mathlib.Core.Path.{_≡_}
+-- The rules in force: the quota rounds as document 02, d, says, is at most 255, and is Q while the index counter is 0; in flight is the
+-- thread's total over the banks, and never fewer than the named bank's own.
+use mathlib.Core.Path.{_≡_, refl}
 use mathlib.Core.List.{List}
 use Prim.Native.Nat.{ℕ, _-_, _*_, _≤_, min}
 use native.Mathlib.Omega.{arith}
-use native.Mathlib.Nat.{le-refl, mul-le-mul-left}
-use lib.ListN.{getD}
+use native.Mathlib.Nat.{mul-le-mul-left}
 use Rattle.rules.specs.declared.Setting.{Setting}
 use Rattle.rules.specs.declared.Limits.{Limits}
 use Rattle.rules.specs.Setting.{indexScale}
-use Rattle.rules.specs.State.{threadCell}
-use Rattle.rules.specs.Quota.{quotaEven}
+use Rattle.rules.specs.Quota.{quotaEven, inFlightTotal}
 use Rattle.rules.specs.Policy.{inForce}
 use Rattle.rules.specs.Tested.{Accepted}
-use Rattle.rules.specs.Claims.{Regular, QuotaRounds, UsedFlying}
-use Rattle.rules.proofs.Cells.{thread-in}
+use Rattle.rules.specs.Claims.{Regular, QuotaRounds, SumsBanks, UsedFlying}
+use Rattle.rules.proofs.Sums.{total-none, total-own, total-used}
 use Rattle.rules.proofs.Accept.{scale-pos}
 use Rattle.rules.proofs.Rounding.{rounds-near, rounds-most, rounds-whole}
 
@@ -43,9 +41,13 @@ in-force-regular m =
     record {
       quotaMost = λ s seeds ok c. omega (arith, quota-most s c (scaled ok), ok .ranges .q-high);
       quotaFirst = λ s seeds ok. omega (arith, quota-full s (scaled ok), ok .ranges .q-low);
-      noneFlying = λ s threads bank thread bh th z. z (threadCell s bank thread 2) (thread-in s bank thread 2 bh th (omega arith));
-      ownFlying = λ s threads bank thread bh th. le-refl (getD threads (threadCell s bank thread 2) 0);
+      noneFlying = λ s threads bank thread bh th z. total-none s threads bank thread th z;
+      ownFlying = λ s threads bank thread bh th. total-own s threads bank thread bh;
     }
 
 pub in-force-used-flying : (m : Limits) → UsedFlying (inForce m)
-in-force-used-flying m s threads other bank thread bh th same = same (threadCell s bank thread 2) (thread-in s bank thread 2 bh th (omega arith))
+in-force-used-flying m s threads other bank thread bh th same = total-used s threads bank thread other th same
+
+pub in-force-sums : (m : Limits) → SumsBanks (inForce m)
+unfolding inFlightTotal
+in-force-sums m s threads bank thread = refl

@@ -6,7 +6,7 @@ use Rattle.rules.proofs.Demand.{spans, within-bound, demand-3}
 use Rattle.rules.proofs.Wait.{wait-is-least, wait-is-closed}
 use Rattle.rules.proofs.Threshold.{below-threshold}
 use Rattle.rules.proofs.Rounding.{rounds}
-use Rattle.rules.proofs.Regular.{in-force-rounds, in-force-regular, in-force-used-flying}
+use Rattle.rules.proofs.Regular.{in-force-rounds, in-force-sums, in-force-regular, in-force-used-flying}
 use Rattle.rules.proofs.Used.{same-replies}
 use Rattle.rules.proofs.Rest.{rest-kept}
 use Rattle.rules.proofs.Later.{turns-add, wait-is-later, opened-at-wait, never-wait-row}
@@ -37,6 +37,7 @@ theorems =
       runFits = run-fits;
       rounds = rounds;
       inForceRounds = in-force-rounds;
+      inForceSums = in-force-sums;
       inForceRegular = in-force-regular;
       inForceUsedFlying = in-force-used-flying;
     }

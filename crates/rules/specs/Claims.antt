@@ -11,14 +11,14 @@ use Rattle.rules.specs.declared.Limits.{Limits}
 use Rattle.rules.specs.declared.Cause.{Cause}
 use Rattle.rules.specs.declared.Cause.the-variants.{Row}
 use Rattle.rules.specs.declared.Answer.the-variants.{Opened, Wait}
-use Rattle.rules.specs.Cells.{ceilDiv, All}
+use Rattle.rules.specs.Cells.{ceilDiv, sumBelow, All}
 use Rattle.rules.specs.Answers.{none, shortBuffer, badMemory}
 use Rattle.rules.specs.Setting.{epochLength, historyLength, rowBound, indexScale, seedsInRange, settingRefusal}
 use Rattle.rules.specs.State.{State, countersUsed, threadsUsed, threadCell, rowWord, fresh, headWords}
 use Rattle.rules.specs.Clock.{epoch, turned}
 use Rattle.rules.specs.Filter.{Within, estimate}
 use Rattle.rules.specs.History.{find}
-use Rattle.rules.specs.Quota.{halfEven}
+use Rattle.rules.specs.Quota.{halfEven, inFlightHere}
 use Rattle.rules.specs.Policy.{Policy, inForce}
 use Rattle.rules.specs.Tested.{Accepted, Long}
 use Rattle.rules.specs.Decision.{quotaRule, activeEstimate, rowRule, decide, passesAt, waitTick}
@@ -184,6 +184,11 @@ QuotaRounds p =
     (s : Setting) (seeds : List ℕ) → Accepted (p .limits) s seeds
     → (c : ℕ) → Nearest (s .q * (indexScale s - min c (indexScale s))) (indexScale s) (p .quota s c)
 
+-- What in flight means to a policy is the thread's total: "the sum of the per-bank counts" over the banks of the setting, whatever bank is named.
+abbrev pub SumsBanks : Policy → Type 0
+SumsBanks p =
+    (s : Setting) (threads : List ℕ) (bank thread : ℕ) → p .inFlight s threads bank thread ≡ sumBelow (s .banks) (λ b. inFlightHere s threads b thread)
+
 -- A first request after set-up, with bank and thread of the setting and a tick below 2^62, is opened.
 abbrev pub FirstOpened : Policy → Type 0
 FirstOpened p =
@@ -299,5 +304,6 @@ pub record Theorems : Type 0 where
   pub runFits : (p : Policy) → Regular p → RunFits p
   pub rounds : Rounds
   pub inForceRounds : (m : Limits) → QuotaRounds (inForce m)
+  pub inForceSums : (m : Limits) → SumsBanks (inForce m)
   pub inForceRegular : (m : Limits) → Regular (inForce m)
   pub inForceUsedFlying : (m : Limits) → UsedFlying (inForce m)

@@ -3,7 +3,7 @@ use mathlib.Core.List.{List}
 use Prim.Native.Nat.{ℕ}
 use Rattle.rules.specs.declared.Setting.{Setting}
 use Rattle.rules.specs.declared.Limits.{Limits}
-use Rattle.rules.specs.Quota.{quotaDown, quotaEven, inFlightHere}
+use Rattle.rules.specs.Quota.{quotaDown, quotaEven, inFlightHere, inFlightTotal}
 
 -- The limits of the setting, the quota from the index counter in test, and what in flight means, from the thread counters, for a bank
 -- and a thread.
@@ -21,9 +21,9 @@ abbrev pub document01 : Policy
 document01 = record { limits = limits01; quota = quotaDown; inFlight = inFlightHere }
 
 -- The rules in force, for the limits of a width. A request of document 02 that changes a rule changes it here; so far d, the
--- rounding of the quota.
+-- rounding of the quota, and b, the thread's total in flight.
 abbrev pub inForce : Limits → Policy
-inForce m = record { limits = m; quota = quotaEven; inFlight = inFlightHere }
+inForce m = record { limits = m; quota = quotaEven; inFlight = inFlightTotal }
 
 -- the rules in force at the width of document 01, with 16-bit counters: those of the exported calls and of the log checker
 abbrev pub narrow : Policy

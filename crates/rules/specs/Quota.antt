@@ -5,6 +5,7 @@ use Prim.Native.Nat.{ℕ, _+_, _-_, _*_, _/_, _%_, min}
 use lib.Dec.{ltb, eqb}
 use lib.ListN.{getD}
 use Rattle.rules.specs.declared.Setting.{Setting}
+use Rattle.rules.specs.Cells.{sumBelow}
 use Rattle.rules.specs.Setting.{indexScale}
 use Rattle.rules.specs.State.{threadCell}
 
@@ -20,9 +21,14 @@ halfEven x d = cond (ltb d (2 * (x % d))) (x / d + 1) (cond (eqb (2 * (x % d)) d
 unfoldable pub quotaEven : Setting → ℕ → ℕ
 quotaEven s c = halfEven (s .q * (indexScale s - min c (indexScale s))) (indexScale s)
 
--- "In flight means opened and not yet done; .. here it is kept for each bank."
+-- document 01: "In flight means opened and not yet done; .. here it is kept for each bank."
 abbrev pub inFlightHere : Setting → List ℕ → ℕ → ℕ → ℕ
 inFlightHere s threads bank thread = getD threads (threadCell s bank thread 2) 0
+
+-- document 02, b: "In flight now means the thread's total over all banks", "the sum of the per-bank counts": over the banks of the setting, whatever
+-- bank is named
+unfoldable pub inFlightTotal : Setting → List ℕ → ℕ → ℕ → ℕ
+inFlightTotal s threads bank thread = sumBelow (s .banks) (λ b. inFlightHere s threads b thread)
 
 -- "With c the counter in test": the RowHammer likelihood index is c/D; f is the active filter
 abbrev pub indexCounter : Setting → List ℕ → ℕ → ℕ → ℕ → ℕ

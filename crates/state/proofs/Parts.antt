@@ -9,15 +9,16 @@ use lib.Dec.{ltb, eqb}
 use lib.ListN.{getD}
 use Rattle.rules.specs.declared.Setting.{Setting}
 use Rattle.rules.specs.declared.Head.{Head}
-use Rattle.rules.specs.Cells.{every}
+use Rattle.rules.specs.Cells.{sumBelow, every}
 use Rattle.rules.specs.Setting.{epochLength, historyLength}
 use Rattle.rules.specs.State.{threadCell, rowWord}
 use Rattle.rules.specs.Clock.{epoch, activeFilter}
 use Rattle.rules.specs.History.{notAfter, neverRises, find}
-use Rattle.rules.specs.Quota.{quotaEven, indexCounter}
-use Rattle.rules.specs.Policy.{narrow}
+use Rattle.rules.specs.Quota.{quotaEven, inFlightHere, indexCounter}
+use Rattle.rules.specs.Policy.{limits01, narrow}
 use Rattle.rules.proofs.Tests.{is-true, every-all}
 use Rattle.rules.proofs.Memory.{after-not}
+use Rattle.rules.proofs.Regular.{in-force-sums}
 use Rattle.rules.specs.Tested.{Memory}
 use Rattle.decision.specs.declared.View.{View}
 use Rattle.decision.specs.Numbers.{delayEnd, viewOf}
@@ -63,7 +64,7 @@ delay-found s h ticks rows bank row skip a b places found word d es left ep ew e
 
 pub view-parts : (s : Setting) (active other : ℕ) (h : Head) (ticks rows threads : List ℕ) (bank thread row f cell : ℕ) (v : View)
     → f ≡ activeFilter s (h .last) → cell ≡ threadCell s bank thread 0
-    → v .flying ≡ getD threads (cell + 2) 0 → v .quota ≡ quotaEven s (getD threads (cell + f) 0)
+    → v .flying ≡ sumBelow (s .banks) (λ b. inFlightHere s threads b thread) → v .quota ≡ quotaEven s (getD threads (cell + f) 0)
     → v .bank ≡ getD (h .bank) bank 0 → v .rank ≡ getD (h .rank) 3 0 → v .active ≡ active → v .other ≡ other
     → v .delay ≡ cond (ltb active (s .n) && ltb other (s .n)) 0 (delayEnd s h ticks rows bank row)
     → v .end ≡ (epoch s (h .last) + 1) * epochLength s
@@ -74,7 +75,7 @@ view-parts s active other h ticks rows threads bank thread row f cell v ef ec e1
     let q : getD threads (cell + f) 0 ≡ indexCounter s threads bank thread (activeFilter s (h .last)) =
     ap (λ x. getD threads x 0) (cell-at f) ∙ ap (λ x. indexCounter s threads bank thread x) ef in
     λ i. record {
-      flying = (e1 ∙ ap (λ x. getD threads x 0) (cell-at 2)) i;
+      flying = (e1 ∙ sym (in-force-sums limits01 s threads bank thread)) i;
       quota = (e2 ∙ ap (quotaEven s) q) i;
       bank = e3 i;
       rank = e4 i;

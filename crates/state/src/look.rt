@@ -74,7 +74,7 @@ pub fn look(
     let f = (e % 2) as usize;
     let cell = thread_counters::cell(s, bank, thread);
     let c = threads[cell + f];
-    let flying = threads[cell + 2] as u64;
+    let flying = thread_total::total(threads, s, thread);
     let quota = quota::quota(s, c);
     let rank = h.rank;
     let delay = delay(s, h, ticks, rows, active, other, bank, row);

@@ -1,7 +1,7 @@
 -- `done` turns the state to the tick and takes one from in flight, which the turn keeps.
 use native.Mathlib.Omega.{arith}
 use Rattle.rules.specs.Clock.{epoch}
-use Rattle.calls.proofs.Flying.{turned-flying}
+use Rattle.rules.proofs.Clock.{turned-flying}
 use borrow.Author.Needs.{needs}
 use Rattle.calls.proofs.done.Statement.{statement}
 use Rattle.calls.proofs.done.Tie as tie

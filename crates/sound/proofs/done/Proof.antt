@@ -9,9 +9,8 @@ use Rattle.rules.specs.Clock.{turned}
 use Rattle.rules.specs.Policy.{limits01}
 use Rattle.rules.specs.Tested.{Taken, Sound}
 use Rattle.rules.specs.Calls.{finished, Outcome, outcome, callRefusal, doneRefusal, reported, step}
-use Rattle.rules.proofs.Accept.{taken, done-taken, number-none}
+use Rattle.rules.proofs.Accept.{taken, done-taken, number-none, not-zero}
 use Rattle.calls.proofs.Requests.{narrow-widest, bounds}
-use Rattle.calls.proofs.Flying.{some-flying}
 use Rattle.sound_told.proofs.Tells.{place-only, done-first, done-last, over-refused, over-taken, done-parts, done-sound, flying-ten}
 use borrow.Author.Needs.{needs}
 use Rattle.sound.proofs.done.Statement.{statement}
@@ -81,7 +80,7 @@ done-requires c κs =
     let a = start .args in
     let k = ok (c .before .before .before .before .before) in
     let r = done-taken limits01 (a .s) (a .seeds .now) (entry start) (a .tick) (a .bank) (a .thread) (number-none _ (sym (flying-is (c .before .before .before)) ∙ c .before .before .if2 .left)) in
-    (bounds narrow-widest (k .setting), k .long .counters, k .long .threads, k .bank-in, k .thread-in, some-flying _ (r .1), k .later)
+    (bounds narrow-widest (k .setting), k .long .counters, k .long .threads, k .bank-in, k .thread-in, not-zero _ (r .1), k .later)
 
 same-length-2 : tie.Need-same-length-2
 same-length-2 c = search needs

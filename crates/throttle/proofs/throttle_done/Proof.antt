@@ -9,9 +9,8 @@ use Rattle.rules.specs.State.{State, headOf}
 use Rattle.rules.specs.Clock.{turned}
 use Rattle.rules.specs.Policy.{limits01, narrow}
 use Rattle.rules.specs.Calls.{doneRefusal, reported, step}
-use Rattle.rules.proofs.Accept.{taken, done-taken, number-none}
+use Rattle.rules.proofs.Accept.{taken, done-taken, number-none, not-zero}
 use Rattle.calls.proofs.Requests.{narrow-widest, bounds}
-use Rattle.calls.proofs.Flying.{some-flying}
 use Rattle.interface.specs.Left.{found}
 use Rattle.throttle.proofs.Settled.{left-refused, moved-alone, done-code, left-done}
 use borrow.Author.Needs.{needs}
@@ -78,7 +77,7 @@ done-requires c κs =
     let a = start .args in
     let d = done-taken limits01 (s start) (a .seeds .now) (entry start) (a .tick) (a .bank) (a .thread) (free here) in
     let k = taken limits01 (s start) (a .seeds .now) (entry start) (a .tick) (a .bank) (a .thread) (d .0) in
-    rw (c .before .before .before .before .load .ensures, c .before .before .load-head .ensures) (bounds narrow-widest (k .setting), k .long .counters, k .long .threads, k .bank-in, k .thread-in, some-flying _ (d .1), k .later)
+    rw (c .before .before .before .before .load .ensures, c .before .before .load-head .ensures) (bounds narrow-widest (k .setting), k .long .counters, k .long .threads, k .bank-in, k .thread-in, not-zero _ (d .1), k .later)
 
 store-clock-requires : tie.Need-store-clock-requires
 store-clock-requires c κs =

@@ -24,17 +24,8 @@ mul-c c = search needs
 shared-slice-read-c : tie.Need-shared-slice-read-c
 shared-slice-read-c c = search needs
 
-add-flying : tie.Need-add-flying
-add-flying c = search needs
-
-mul-flying : tie.Need-mul-flying
-mul-flying c = search needs
-
-shared-slice-read-flying : tie.Need-shared-slice-read-flying
-shared-slice-read-flying c = search needs
-
-cast-flying : tie.Need-cast-flying
-cast-flying c = omega (arith, c .shared-slice-known5 .given (c .before .before .cell .result + 2))
+total-requires : tie.Need-total-requires
+total-requires c κs = search needs
 
 quota-requires : tie.Need-quota-requires
 quota-requires c κs = search needs
@@ -67,7 +58,7 @@ returns c =
     let at-cell = c .before .before .before .before .before in
     let a = start .args in
     view-parts (a .s) (a .active) (a .other) (a .h) (a .ticks .now) (a .rows .now) (a .threads .now) (a .bank) (a .thread) (a .row) (a .e % 2) (at-cell .cell .result) _
-    (ap (λ x. x % 2) (start .pre .1)) (at-cell .cell .ensures .0) refl (c .before .before .quota .ensures .0) (start .pre .2) refl refl refl (c .delay .ensures) (ap (λ x. (x + 1) * (a .s .w / 2)) (start .pre .1))
+    (ap (λ x. x % 2) (start .pre .1)) (at-cell .cell .ensures .0) (c .before .before .before .total .ensures) (c .before .before .quota .ensures .0) (start .pre .2) refl refl refl (c .delay .ensures) (ap (λ x. (x + 1) * (a .s .w / 2)) (start .pre .1))
 
 pub look-spec : {M : Type 1} → statement M
 look-spec =
@@ -77,10 +68,7 @@ look-spec =
     add-c
     mul-c
     shared-slice-read-c
-    add-flying
-    mul-flying
-    shared-slice-read-flying
-    cast-flying
+    total-requires
     quota-requires
     delay-requires
     add-end
