@@ -21,7 +21,7 @@ pub struct Setting {
     pub td: u64,
     // L, the most activations of a row in W ticks.
     pub l: u64,
-    // Q, the most requests in flight for a thread in a bank.
+    // Q, the most requests in flight for a thread, over all banks.
     pub q: u64,
     pub banks: u64,
     pub threads: u64,
