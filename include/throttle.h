@@ -47,7 +47,7 @@ struct throttle_setting {
     uint64_t n;       /* blacklisting threshold N: 1 to 32,768 */
     uint64_t td;      /* delay tD of a blacklisted row: 1 to 2^29 */
     uint64_t l;       /* most activations L of a row in W ticks: 1 to 2^24 */
-    uint64_t q;       /* most requests Q in flight for a thread in a bank: 1 to 255 */
+    uint64_t q;       /* most requests Q in flight for a thread, in all banks: 1 to 255 */
     uint64_t banks;   /* 1 to 16, each of 65,536 rows */
     uint64_t threads; /* 1 to 32 */
 };
@@ -201,7 +201,7 @@ enum throttle_answer {
     THROTTLE_WAIT_BANK = 1, /* under tRC ticks since the bank's last activation */
     THROTTLE_WAIT_RANK = 2, /* under tFAW ticks since the rank's fourth last activation */
     THROTTLE_WAIT_ROW = 3,  /* the row is blacklisted and was activated under tD ticks ago */
-    THROTTLE_QUOTA = 4      /* the thread has its quota in flight in this bank, or its quota is 0 */
+    THROTTLE_QUOTA = 4      /* the thread's total in flight is not below its quota in this bank */
 };
 
 /*
@@ -277,8 +277,9 @@ uint32_t throttle_setup(const uint64_t setting[9], const uint16_t *seeds, size_t
  * again then; the answer may be another wait if other requests were opened
  * in between, or quota.
  *
- * 4: out[1] is 0. There is no tick to wait for: ask again after a done of this
- * thread in this bank, or in the next epoch.
+ * 4: out[1] is 0. In flight is the thread's total over all banks, the quota is
+ * that of the named one. There is no tick to wait for: ask again after a done
+ * of this thread in any bank, or in the next epoch.
  *
  * 0: out[1] is 0. The activation is counted, stands in the history and is in
  * flight until throttle_done. Nothing else adds to the state; a wait or a
@@ -299,7 +300,8 @@ uint32_t throttle_request(const uint64_t setting[9], const uint16_t *seeds, size
 
 /*
  * Reports that one of the thread's activations in the bank is finished: moves
- * the clock and takes 1 from in flight.
+ * the clock and takes 1 from in flight of the bank, and so from the thread's
+ * total.
  */
 THROTTLE_CHECKED
 uint32_t throttle_done(const uint64_t setting[9], const uint16_t *seeds, size_t seeds_len,
