@@ -101,15 +101,6 @@ static uint64_t distances(const uint64_t *x, size_t n, uint64_t last)
     return bits;
 }
 
-/* One of the n stored ticks from x on is after the last tick. */
-static int any_after(const uint64_t *x, size_t n, uint64_t last)
-{
-    for (size_t i = 0; i < n; i++)
-        if (after(x[i], last))
-            return 1;
-    return 0;
-}
-
 /*
  * Refusal 7. Where the last tick, the stored ticks of banks and rank and their
  * distances are below 2^62, none of these is after the last; else they are
@@ -286,6 +277,18 @@ static uint32_t quota(const struct rules *r, uint32_t c)
     return below + ((twice > r->scale) | ((twice == r->scale) & below));
 }
 
+/* The thread's requests in flight in all banks; 64 bits hold the sum of any cells. */
+static uint64_t in_flight(const struct rules *r, const uint32_t *threads, size_t thread)
+{
+    const uint32_t *cell = threads + thread * 3 + IN_FLIGHT;
+    size_t step = (size_t)r->threads * 3;
+    uint64_t sum = 0;
+#pragma GCC unroll 8
+    for (uint32_t b = 0; b < r->banks; b++, cell += step)
+        sum += *cell;
+    return sum;
+}
+
 /* Writes an activation to head, history, filters and thread counters. */
 static void activate(const struct rules *r, uint64_t head[22], uint16_t *bank_counters,
                      uint64_t *ticks, uint32_t *rows, uint32_t *cell, uint32_t word,
@@ -342,7 +345,7 @@ uint32_t BASE_NAME(BASE_PREFIX, request)(BASE_STATE, uint64_t tick, uint64_t ban
     uint64_t epoch = move_clock(&r, head, counters, threads, tick);
     size_t active = epoch % 2;
     uint32_t *cell = threads + (bank * r.threads + thread) * 3;
-    if (cell[IN_FLIGHT] >= quota(&r, cell[active])) {
+    if (in_flight(&r, threads, thread) >= quota(&r, cell[active])) {
         out[0] = 4;
         out[1] = 0;
         return 0;

@@ -19,6 +19,15 @@ static inline int after(uint64_t stored, uint64_t last)
     return stored != 0 && stored - 1 > last;
 }
 
+/* One of the n stored ticks from x on is after the last tick. */
+static inline int any_after(const uint64_t *x, size_t n, uint64_t last)
+{
+    for (size_t i = 0; i < n; i++)
+        if (after(x[i], last))
+            return 1;
+    return 0;
+}
+
 #ifdef BASE_COMPARES
 
 /* Not 0 where one of the n cells from x on is above the cell after it. */

@@ -133,14 +133,15 @@ static uint32_t start(const uint8_t block[BLOCK])
 }
 
 /* A request that is not refused: its answer and wait tick; moves the clock and may activate. */
-static void decide(uint64_t tick, size_t bank, uint16_t row, uint32_t *cell, uint64_t out[2])
+static void decide(uint64_t tick, size_t bank, size_t thread, uint16_t row, uint64_t out[2])
 {
     uint16_t places[4];
+    uint32_t *cell = threads + (bank * rules.threads + thread) * 3;
     uint64_t epoch = move_clock(&rules, head, counters, threads, tick);
     size_t active = epoch % 2;
     out[0] = 4;
     out[1] = 0;
-    if (cell[IN_FLIGHT] >= quota(&rules, cell[active]))
+    if (in_flight(&rules, threads, thread) >= quota(&rules, cell[active]))
         return;
     uint32_t word = (uint32_t)bank << 16 | row;
     uint16_t *filters = counters + bank * BANK_COUNTERS;
@@ -168,15 +169,15 @@ static uint32_t run_record(const uint8_t *record, uint64_t out[2])
         return 8;
     if (tick < head[0] || tick >> 62 != 0)
         return 9;
-    uint32_t *cell = threads + (bank * rules.threads + thread) * 3;
     if (record[20] == 0) {
-        decide(tick, bank, load16(record + 16), cell, out);
+        decide(tick, bank, thread, load16(record + 16), out);
         return 0;
     }
-    if (cell[IN_FLIGHT] == 0)
+    uint32_t *flying = threads + (bank * rules.threads + thread) * 3 + IN_FLIGHT;
+    if (*flying == 0)
         return 10;
     move_clock(&rules, head, counters, threads, tick);
-    cell[IN_FLIGHT]--;
+    *flying -= 1;
     out[0] = 0;
     out[1] = 0;
     return 0;

@@ -30,7 +30,10 @@ static const struct history cases[CASES] = {
     {"a gap of 2^60 ticks", 1000, (uint64_t)1 << 60},
 };
 
-/* Fills h places with activations and returns the tick of the last one. */
+/*
+ * Fills h places with activations, each reported done at once, so that no
+ * thread reaches its quota, and returns the tick of the last one.
+ */
 static uint64_t fill(const struct history *history, size_t h)
 {
     uint64_t now = history->first;
@@ -40,6 +43,8 @@ static uint64_t fill(const struct history *history, size_t h)
         call_all(&c, &r);
         if (r.out[0] != THROTTLE_OPENED)
             fail("the history is not filled");
+        c.kind = DONE;
+        call_all(&c, &r);
         if (i + 1 < h)
             now += i == h / 2 ? history->gap : STEP;
     }

@@ -222,10 +222,10 @@ static void line_up(struct controller *c, const struct trace *t)
 }
 
 /*
- * When a thread whose quota is used up asks again: when one of its activations,
- * in any bank, is done, or in the next epoch.
+ * When a thread whose quota is used up asks again: when one of its activations
+ * is done, in whichever bank, or in the next epoch.
  */
-static uint64_t after_quota(const struct controller *c, uint64_t thread)
+static uint64_t after_quota(const struct controller *c, size_t thread)
 {
     uint64_t epoch = c->rank.setting.w / 2;
     uint64_t turn = (c->now / epoch + 1) * epoch;
@@ -255,7 +255,7 @@ static void make_request(struct controller *c, const struct trace *t, size_t thr
         if (e->next < t->len && c->ready[thread] < t->entries[e->next].tick)
             c->ready[thread] = t->entries[e->next].tick;
     } else if (out[0] == THROTTLE_QUOTA) {
-        c->ready[thread] = after_quota(c, e->thread);
+        c->ready[thread] = after_quota(c, thread);
     } else {
         c->ready[thread] = out[1];
     }

@@ -202,7 +202,7 @@ enum throttle_answer {
     THROTTLE_WAIT_BANK = 1, /* under tRC ticks since the bank's last activation */
     THROTTLE_WAIT_RANK = 2, /* under tFAW ticks since the rank's fourth last activation */
     THROTTLE_WAIT_ROW = 3,  /* the row is blacklisted and was activated under tD ticks ago */
-    THROTTLE_QUOTA = 4      /* the thread has its quota in flight, over all banks */
+    THROTTLE_QUOTA = 4      /* the thread's total in flight is not below its quota in this bank */
 };
 
 /*
@@ -278,9 +278,9 @@ uint32_t throttle_setup(const uint64_t setting[9], const uint16_t *seeds, size_t
  * again then; the answer may be another wait if other requests were opened
  * in between, or quota.
  *
- * 4: out[1] is 0. The quota is that of this bank (throttle_index), what is in
- * flight the thread's total over all banks. There is no tick to wait for: ask
- * again after a done of this thread in any bank, or in the next epoch.
+ * 4: out[1] is 0. In flight is the thread's total over all banks, the quota is
+ * that of the named one. There is no tick to wait for: ask again after a done
+ * of this thread in any bank, or in the next epoch.
  *
  * 0: out[1] is 0. The activation is counted, stands in the history and is in
  * flight until throttle_done. Nothing else adds to the state; a wait or a

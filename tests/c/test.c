@@ -4,9 +4,8 @@
  * specification, every refusal of every call, and the order and width of the
  * arguments by values that differ in each of them.
  */
+#include "check.h"
 #include "lent.h"
-
-#include <stdio.h>
 
 #define BUFFERS                                                                                    \
     const uint64_t *, const uint16_t *, size_t, uint64_t *, uint16_t *, size_t, uint64_t *,        \
@@ -22,17 +21,6 @@ _Static_assert(_Generic(&throttle_request, request_type *: 1, default: 0), "type
 _Static_assert(_Generic(&throttle_done, done_type *: 1, default: 0), "type of done");
 _Static_assert(_Generic(&throttle_index, index_type *: 1, default: 0), "type of index");
 _Static_assert(sizeof(struct throttle_setting) == 72, "nine words");
-
-static unsigned checks, failures;
-
-#define CHECK(condition)                                                                           \
-    do {                                                                                           \
-        checks++;                                                                                  \
-        if (!(condition)) {                                                                        \
-            failures++;                                                                            \
-            printf("  line %d: %s\n", __LINE__, #condition);                                       \
-        }                                                                                          \
-    } while (0)
 
 static const struct throttle_setting S = {40, 1, 4, 2, 6, 10, 4, 1, 1};
 
@@ -153,33 +141,6 @@ static void samples(void)
         CHECK(request(&m, 6 + row, 0, 0, row) == 0 && m.two[0] == THROTTLE_OPENED);
     CHECK(done(&m, 9, 0, 0) == 0);
     CHECK(request(&m, 9, 0, 0, 9) == 0 && m.two[0] == THROTTLE_WAIT_BANK && m.two[1] == 10);
-    give_back(&m);
-}
-
-/*
- * Quotas with their Q, D and c, at and around exact halves, which go to the even
- * number. A request is held by the quota with as many in flight, not with one less.
- */
-static void quotas(void)
-{
-    static const struct {
-        uint64_t quota, q, d;
-        uint32_t c;
-    } cases[] = {{0, 1, 8, 4},  {2, 3, 8, 4}, {2, 4, 8, 3}, {4, 4, 8, 1},
-                 {4, 5, 10, 1}, {4, 4, 9, 1}, {4, 4, 8, 0}, {3, 4, 10, 2},
-                 {0, 4, 8, 99}, {0, 4, 8, 8}, {128, 255, 16777214, 8388607}};
-    struct lent m = lend(&S);
-    for (size_t i = 0; i < sizeof cases / sizeof *cases; i++) {
-        m.words[5] = cases[i].d + S.n;
-        m.words[6] = cases[i].q;
-        CHECK(setup(&m) == 0);
-        m.threads[0] = cases[i].c;
-        CHECK(reading(&m, 0, 0, 0) == 0 && m.three[2] == cases[i].quota);
-        m.threads[2] = (uint32_t)cases[i].quota;
-        CHECK(answers(&m, 0, THROTTLE_QUOTA, 0));
-        m.threads[2]--;
-        CHECK(cases[i].quota == 0 || answers(&m, 0, THROTTLE_OPENED, 0));
-    }
     give_back(&m);
 }
 
@@ -388,12 +349,10 @@ int main(void)
     checked_rows();
     published();
     samples();
-    quotas();
     rank_rule();
     order_of_arguments();
     order_of_seeds();
     refusals();
     longer_buffers();
-    printf("c: %u checks, %u failed\n", checks, failures);
-    return failures != 0;
+    return result("c");
 }

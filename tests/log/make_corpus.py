@@ -15,6 +15,7 @@ import sys
 sys.dont_write_bytecode = True
 
 import damaged
+import in_flight
 import layout
 import records
 import rounding
@@ -49,7 +50,7 @@ class Corpus:
         (self.directory / f"{name}.log").write_bytes(data)
 
     def faithful(self, style, seed, count, first, setting, keys=0, more=()):
-        """A log in which every record is the rules' own answer, or with `down` that of the quota rounded down; see LOG_MAKER."""
+        """A log in which every record is the rules' own answer, or that of an old rule which `more` names; see LOG_MAKER."""
         words = [self.maker, style, *(str(x) for x in (seed, count, first, keys, *setting)), *more]
         return subprocess.run(words, check=True, stdout=subprocess.PIPE).stdout
 
@@ -94,6 +95,7 @@ def main():
     settings.add_to(corpus)
     records.add_to(corpus, bases)
     rounding.add_to(corpus)
+    in_flight.add_to(corpus)
     layout.add_to(corpus, log(four()))
     damaged.add_to(corpus, {"four": log(four()), **bases})
     print(f"{len(corpus.names)} logs in {corpus.directory}")

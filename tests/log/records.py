@@ -5,7 +5,6 @@ from collections import Counter
 from blocks import done, field_of, log, record, records_of, with_field
 
 TOP = 2 ** 62
-TWO_BY_TWO = (40, 1, 4, 2, 6, 10, 4, 2, 2)
 # S with Q 3: a counter of 1 gives 2.625, that is 3.
 THREE = (40, 1, 4, 2, 6, 10, 3, 1, 1)
 
@@ -77,18 +76,6 @@ def refused(corpus):
                     corpus.add(f"refused-{name}-{count}-{kind}-{answer}", log(pairs(count) + [bad]))
 
 
-def in_flight(corpus):
-    """Dones of another bank or thread than the opening's, and one more than there were openings."""
-    for bank in (0, 1):
-        for thread in (0, 1):
-            both = [record(0), done(1, bank=bank, thread=thread)]
-            corpus.add(f"done-of-{bank}-{thread}", log(both, TWO_BY_TWO))
-    corpus.add("done-twice", log([record(0), done(1), done(1)]))
-    corpus.add("done-first", log([done(0)]))
-    corpus.add("done-after-a-wait", log([record(0), record(0, answer=1, wait=1), done(0), done(0)]))
-    corpus.add("done-after-epochs", log([record(0), done(1_000), record(2_000)]))
-
-
 def clock(corpus):
     """A wait, a quota answer and a done move the clock, so that an earlier tick is refused after them."""
     start = five(answer=4) + [done(9)]
@@ -99,7 +86,7 @@ def clock(corpus):
 
 def history(corpus):
     """Seven openings within tD; a row that is blacklisted by the openings of another one."""
-    eight_banks = (80, 1, 35, 1, 36, 10, 4, 8, 1)
+    eight_banks = (80, 1, 35, 1, 36, 10, 9, 8, 1)
     openings = [record(0, bank=bank) for bank in range(4)] + [record(35, bank=bank) for bank in (4, 5, 6)]
     corpus.add("history-of-seven", log(openings + [record(35, answer=3, wait=36), record(36)], eight_banks))
     corpus.add("history-of-five", log(openings + [record(35)], eight_banks))
@@ -142,7 +129,6 @@ def add_to(corpus, bases):
         claims(corpus, name, bases[name])
     late(corpus, bases["late"])
     refused(corpus)
-    in_flight(corpus)
     clock(corpus)
     history(corpus)
     dones(corpus)

@@ -2,11 +2,11 @@
 //! of its own, all settled by the campaign's seed and the run's number.
 
 use crate::call::Call;
-use crate::contents::{fill_any, fill_near, lent};
+use crate::contents::{fill_any, fill_near, in_flight_cells, lent};
 use crate::numbers::Numbers;
 use crate::pair::{Difference, Pair};
 use crate::settings::{at_bounds, large, medium, mixed, odd_seeds, seeds, small, THREADS};
-use crate::tally::Tally;
+use crate::tally::{Standing, Tally};
 use crate::walk::Walk;
 use second::{Fault, State};
 
@@ -108,23 +108,26 @@ fn step(
     tally: &mut Tally,
 ) -> Result<(), Box<Difference>> {
     let head = |pair: &Pair| [pair.memory().head.cells()[0], pair.memory().head.cells()[1]];
-    let (before, thread) = (head(pair), thread_cells(pair, call));
+    let (before, thread) = (head(pair), standing(pair, call));
     let answer = pair.call(call)?;
     walk.note(call, &answer);
-    tally.note(pair.setting(), call, &answer, before, head(pair), thread);
+    tally.note(pair.setting(), call, &answer, before, head(pair), &thread);
     Ok(())
 }
 
-/// The three cells of a call's thread in its bank, zeros where there are none.
-fn thread_cells(pair: &Pair, call: &Call) -> [u64; 3] {
-    let threads = pair.setting()[THREADS];
+/// What a call's thread has, zeros where there is no such thread or bank.
+fn standing(pair: &Pair, call: &Call) -> Standing {
+    let setting = pair.setting();
+    let threads = pair.memory().threads.cells();
+    let cell = |at: usize| threads.get(at).map_or(0, |&cell| u64::from(cell));
     let before = call
         .bank
-        .saturating_mul(threads)
-        .saturating_add(call.thread);
-    let cells = pair.memory().threads.cells();
-    std::array::from_fn(|k| {
-        let place = before.saturating_mul(3).saturating_add(k as u64);
-        cells.get(place as usize).map_or(0, |&cell| u64::from(cell))
-    })
+        .saturating_mul(setting[THREADS])
+        .saturating_add(call.thread)
+        .saturating_mul(3);
+    let flying = in_flight_cells(setting, call.thread, threads.len());
+    Standing {
+        cells: [0, 1, 2].map(|k| cell(before.saturating_add(k) as usize)),
+        total: flying.into_iter().map(cell).sum(),
+    }
 }

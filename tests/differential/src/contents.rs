@@ -173,43 +173,94 @@ fn fill_counters(numbers: &mut Numbers, setting: &[u64; 9], state: &mut State) {
     });
 }
 
-/// Index counters below, at and above D, in flight around Q; of one thread in
-/// four such that the rounding of its quota decides.
+/// Index counters below, at and above D, and the requests in flight of each
+/// thread.
 fn fill_threads(numbers: &mut Numbers, setting: &[u64; 9], state: &mut State) {
-    let d = setting[L].min(1 << 24).saturating_sub(setting[N]) as u32;
-    let q = setting[Q].min(256) as u32;
-    let calm = numbers.one_in(2);
-    for cells in state.threads.chunks_mut(3) {
-        for (k, cell) in cells.iter_mut().enumerate() {
-            let top = if k == 2 { q } else { d };
-            *cell = match numbers.within(0, 7) {
-                _ if calm && k == 2 => numbers.within(0, 1) as u32,
-                0 => top,
-                1 => top + 1,
-                2 => top.saturating_sub(1),
-                3 => u32::MAX,
-                4 => numbers.within(0, u64::from(top)) as u32,
-                _ => numbers.within(0, 2) as u32,
-            };
-        }
-        if numbers.one_in(4) {
-            stand_at_half(numbers, u64::from(q), u64::from(d), cells);
+    let d = top_of_index(setting) as u32;
+    state.threads.fill_with(|| match numbers.within(0, 7) {
+        0 => d,
+        1 => d + 1,
+        2 => d.saturating_sub(1),
+        3 => u32::MAX,
+        4 => numbers.within(0, u64::from(d)) as u32,
+        _ => numbers.within(0, 2) as u32,
+    });
+    for thread in 0..setting[THREADS].min(32) {
+        let cells = in_flight_cells(setting, thread, state.threads.len());
+        if !cells.is_empty() {
+            fill_in_flight(numbers, setting, &cells, &mut state.threads);
         }
     }
 }
 
-/// Index counters at or next to the one where the quota is a whole number and a
-/// half, if there is one, and as many in flight as that number or one more.
-fn stand_at_half(numbers: &mut Numbers, q: u64, d: u64, cells: &mut [u32]) {
-    let whole = numbers.within(0, q.max(1) - 1);
-    let c = d - d * (2 * whole + 1) / (2 * q.max(1));
-    let above = u64::from(numbers.one_in(4));
-    for (k, cell) in cells.iter_mut().enumerate() {
-        *cell = match k {
-            2 => whole + above,
-            _ => numbers.pick(&[c, c, c + 1, c.saturating_sub(1)]),
-        } as u32;
+/// D, for a setting that is not accepted any number up to 2^24.
+fn top_of_index(setting: &[u64; 9]) -> u64 {
+    setting[L].min(1 << 24).saturating_sub(setting[N])
+}
+
+/// The cells of a thread's requests in flight, bank by bank, as far as the
+/// buffer has them; none of a thread outside the setting.
+pub fn in_flight_cells(setting: &[u64; 9], thread: u64, length: usize) -> Vec<usize> {
+    let threads = setting[THREADS].min(32);
+    let banks = if thread < threads {
+        setting[BANKS].min(16)
+    } else {
+        0
+    };
+    (0..banks)
+        .map(|bank| ((bank * threads + thread) * 3 + 2) as usize)
+        .filter(|&cell| cell < length)
+        .collect()
+}
+
+/// Requests in flight of a thread, spread over the banks: few, around Q, or as
+/// many as the quota where its rounding decides; or any numbers. In one case of
+/// eight the sum is greater by 2^32, so that it is small in 32 bits only.
+fn fill_in_flight(numbers: &mut Numbers, setting: &[u64; 9], cells: &[usize], threads: &mut [u32]) {
+    let q = setting[Q].clamp(1, 256);
+    let total = match numbers.within(0, 9) {
+        0..=4 => numbers.within(0, 2),
+        5 => (q + numbers.within(0, 2)).saturating_sub(1),
+        6..=8 => stand_at_half(numbers, q, top_of_index(setting), cells, threads),
+        _ => {
+            for &cell in cells {
+                let any = numbers.word() as u32;
+                threads[cell] = numbers.pick(&[0, 1, u32::MAX, any]);
+            }
+            return;
+        }
+    };
+    for &cell in cells {
+        threads[cell] = 0;
     }
+    for _ in 0..total {
+        threads[numbers.pick(cells)] += 1;
+    }
+    if cells.len() > 1 && numbers.one_in(8) {
+        let first = below(numbers, cells.len());
+        let second = (first + 1 + below(numbers, cells.len() - 1)) % cells.len();
+        threads[cells[first]] += 1 << 31;
+        threads[cells[second]] += 1 << 31;
+    }
+}
+
+/// Index counters, in each bank, at or next to the one where the quota is a
+/// whole number and a half, if there is one; returns that number or one more.
+fn stand_at_half(
+    numbers: &mut Numbers,
+    q: u64,
+    d: u64,
+    cells: &[usize],
+    threads: &mut [u32],
+) -> u64 {
+    let whole = numbers.within(0, q - 1);
+    let c = d - d * (2 * whole + 1) / (2 * q);
+    for &cell in cells {
+        for counter in &mut threads[cell - 2..cell] {
+            *counter = numbers.pick(&[c, c, c + 1, c.saturating_sub(1)]) as u32;
+        }
+    }
+    whole + u64::from(numbers.one_in(4))
 }
 
 /// Makes one change that refusal 7 is about, or that lies next to it.

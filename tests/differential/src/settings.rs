@@ -79,7 +79,7 @@ pub fn small(numbers: &mut Numbers) -> [u64; 9] {
     } else {
         numbers.within(1, 6)
     };
-    let (banks, threads) = (numbers.within(1, 3), numbers.within(1, 3));
+    let (banks, threads) = (numbers.within(1, 4), numbers.within(1, 3));
     limited(numbers, [w, trc, tfaw, n, td, 1, q, banks, threads])
 }
 

@@ -7,7 +7,7 @@ use std::cmp::Ordering;
 use std::fmt;
 
 /// Names of the events that are counted.
-const EVENTS: [&str; 10] = [
+const EVENTS: [&str; 15] = [
     "moves over one epoch turn",
     "moves over two or more epoch turns",
     "history place moved from H - 1 to 0",
@@ -18,6 +18,11 @@ const EVENTS: [&str; 10] = [
     "requests held by a quota rounded down from a half",
     "requests not held by a quota rounded up from a half",
     "requests not held by a quota rounded up from above a half",
+    "requests held by the total and not by the named bank's count",
+    "requests held by a total that is below the quota in 32 bits",
+    "requests not held, with some in flight in other banks",
+    "dones refused with 10, with some in flight in other banks",
+    "dones answered, with some in flight in other banks",
 ];
 
 /// Least number of times that each refusal, answer and event is reached.
@@ -31,13 +36,20 @@ pub struct Tally {
     numbers: [[u64; 11]; 4],
     /// Requests by answer.
     answers: [u64; 5],
-    events: [u64; 10],
+    events: [u64; 15],
+}
+
+/// What a call's thread has before the call.
+pub struct Standing {
+    /// Its three cells in the named bank.
+    pub cells: [u64; 3],
+    /// Its requests in flight in all banks.
+    pub total: u64,
 }
 
 impl Tally {
     /// Counts a call. The head cells are the first two, last tick and next
-    /// history place, before and after it; `thread` are the three cells of the
-    /// thread in the bank before it.
+    /// history place, before and after it.
     pub fn note(
         &mut self,
         setting: &[u64; 9],
@@ -45,10 +57,13 @@ impl Tally {
         answer: &Answer,
         before: [u64; 2],
         after: [u64; 2],
-        thread: [u64; 3],
+        thread: &Standing,
     ) {
         self.calls += 1;
         self.numbers[call.kind as usize][answer.number as usize] += 1;
+        if call.kind == Kind::Done {
+            self.note_done(answer.number, thread);
+        }
         if answer.number != 0 || call.kind == Kind::Setup {
             return;
         }
@@ -61,8 +76,8 @@ impl Tally {
         }
         // At a turn the counter in test may be another than before the call.
         if request && turns == 0 {
-            let c = thread[(after[0] / epoch % 2) as usize];
-            self.note_rounding(setting, c, thread[2], out == 4);
+            let c = thread.cells[(after[0] / epoch % 2) as usize];
+            self.note_quota(setting, c, thread, out == 4);
         }
         let happened = [
             turns == 1,
@@ -72,29 +87,41 @@ impl Tally {
             request && wait >= 1 << 62,
             call.kind == Kind::Index && out > wait,
         ];
-        // The events after these are counted by `note_rounding`.
+        // The events after these are counted by `note_quota` and `note_done`.
         for (event, happened) in self.events.iter_mut().zip(happened) {
             *event += u64::from(happened);
         }
     }
 
-    /// Counts a request that the rounding of the quota decides: as many are in
+    /// Counts a request that the rounding of the quota decides, with as many in
     /// flight as the whole number below Q x (D - min(c, D))/D, so that the quota
-    /// holds the request where it is rounded down and not where it is rounded up.
-    fn note_rounding(&mut self, setting: &[u64; 9], c: u64, in_flight: u64, held: bool) {
+    /// holds the request where it is rounded down and not where it is rounded up;
+    /// and one that the total over the banks decides.
+    fn note_quota(&mut self, setting: &[u64; 9], c: u64, thread: &Standing, held: bool) {
         let d = setting[L] - setting[N];
         let share = setting[Q] * (d - c.min(d));
         let (whole, rest) = (share / d, share % d);
-        if rest == 0 || in_flight != whole {
-            return;
-        }
         let (event, down) = match (2 * rest).cmp(&d) {
             Ordering::Less => (6, true),
             Ordering::Equal if whole % 2 == 0 => (7, true),
             Ordering::Equal => (8, false),
             Ordering::Greater => (9, false),
         };
-        self.events[event] += u64::from(held == down);
+        let decides = rest != 0 && thread.total == whole;
+        self.events[event] += u64::from(decides && held == down);
+        let quota = whole + u64::from(!down);
+        let own = thread.cells[2];
+        self.events[10] += u64::from(held && own < quota);
+        self.events[11] += u64::from(held && thread.total % (1 << 32) < quota);
+        self.events[12] += u64::from(!held && own < thread.total);
+    }
+
+    /// Counts a done of a thread that has requests in flight in other banks.
+    fn note_done(&mut self, number: u32, thread: &Standing) {
+        if thread.total > thread.cells[2] {
+            self.events[13] += u64::from(number == 10);
+            self.events[14] += u64::from(number == 0);
+        }
     }
 
     /// What was reached too seldom.

@@ -1,12 +1,13 @@
 //! The decision about a request: the counting Bloom filters and their
-//! estimate, index and quota, the bank, rank and row rules in their order, the
-//! wait tick, and what an activation writes. The wait tick is found by trying
-//! one tick after the other.
+//! estimate, the quota, bank, rank and row rules in their order, the wait tick,
+//! and what an activation writes. The wait tick is found by trying one tick
+//! after the other.
 
 use crate::clock::{tested, turned_filters};
 use crate::fault::Fault;
+use crate::quota::{add_in_flight, held};
 use crate::setting::Rules;
-use crate::state::{thread_cell, State, BANK, IN_FLIGHT, PLACE, RANK};
+use crate::state::{thread_cell, State, BANK, PLACE, RANK};
 
 /// Answers of a request.
 pub const OPENED: u64 = 0;
@@ -68,45 +69,6 @@ pub fn count(rules: &Rules, state: &mut State, bank: usize, row: u16) {
             }
         }
     }
-}
-
-/// The index counter in test.
-pub fn index_counter(rules: &Rules, state: &State, call: &Call) -> u64 {
-    let cell = thread_cell(rules, call.bank, call.thread) + tested(rules, call.tick);
-    u64::from(state.threads[cell])
-}
-
-/// Q * (D - min(c, D))/D, rounded to the nearest whole request, an exact half
-/// to the even one. All numbers of requests are tried.
-pub fn quota(rules: &Rules, c: u64) -> u64 {
-    let share = rules.q * (rules.d - c.min(rules.d));
-    let miss = |&requests: &u64| miss(rules, share, requests);
-    (0..=rules.q).min_by_key(miss).unwrap_or(0)
-}
-
-/// How far a number of requests is from share/D, in parts of 1/D, and then
-/// whether it is odd: of two that are equally far the even one is less.
-fn miss(rules: &Rules, share: u64, requests: u64) -> (u64, u64) {
-    let parts = requests * rules.d;
-    let distance = parts.abs_diff(share);
-    match rules.fault {
-        Fault::QuotaRoundsDown if parts > share => (u64::MAX, 0),
-        Fault::QuotaRoundsUp if parts < share => (u64::MAX, 0),
-        Fault::QuotaKeepsOne if requests == 0 && share > 0 => (u64::MAX, 0),
-        Fault::QuotaHalfUp => (distance, rules.q - requests),
-        Fault::QuotaHalfDown => (distance, requests),
-        Fault::QuotaHalfToOdd => (distance, 1 - requests % 2),
-        _ => (distance, requests % 2),
-    }
-}
-
-/// Requests of the thread activated in the bank and not yet done.
-fn in_flight(rules: &Rules, state: &State, call: &Call) -> u64 {
-    let of = |bank| u64::from(state.threads[thread_cell(rules, bank, call.thread) + IN_FLIGHT]);
-    if rules.has(Fault::InFlightOfAllBanks) {
-        return (0..rules.banks).map(of).sum();
-    }
-    of(call.bank)
 }
 
 /// What the bank, rank and row rules look at, for one row of one bank. Small
@@ -241,19 +203,9 @@ fn view<'a>(
 pub fn decide(rules: &Rules, state: &State, call: &Call, row: u16) -> (u64, u64) {
     let activations = activations(rules, state, call.bank, row);
     let view = view(rules, state, call, row, &activations);
-    let c = index_counter(rules, state, call);
-    let quota = match rules.fault {
-        Fault::RequestRoundsDown => quota(&rules.with(Fault::QuotaRoundsDown), c),
-        _ => quota(rules, c),
-    };
-    let flying = in_flight(rules, state, call);
-    let held = if rules.has(Fault::QuotaStrict) {
-        flying > quota
-    } else {
-        flying >= quota
-    };
     let cause = view.cause(rules, call.tick);
-    if held && !(rules.has(Fault::QuotaLast) && cause.is_some()) {
+    let last = rules.has(Fault::QuotaLast) && cause.is_some();
+    if !last && held(rules, state, call) {
         return (QUOTA, 0);
     }
     match cause {
@@ -298,7 +250,7 @@ pub fn open(rules: &Rules, state: &mut State, call: &Call, row: u16, last: u64) 
     if blacklisted {
         raise_index(rules, state, call);
     }
-    state.threads[thread_cell(rules, call.bank, call.thread) + IN_FLIGHT] += 1;
+    add_in_flight(rules, state, call);
     let stored = match rules.fault {
         Fault::StampsLastTick => last + 1,
         Fault::StoresWithoutPlusOne => call.tick,

@@ -123,8 +123,40 @@ faults! {
     IndexCountsAll,
     /// The history compares the row and forgets the bank.
     HistoryForgetsBank,
-    /// In flight is taken over all banks of the thread.
-    InFlightOfAllBanks,
+    /// In flight is the named bank's own count, as document 01 has it.
+    InFlightOfBank,
+    /// In flight is taken over all threads of the named bank.
+    InFlightOfAllThreads,
+    /// In flight is taken over the banks up to the named one.
+    InFlightUpToBank,
+    /// In flight is taken over the banks from the named one on.
+    InFlightFromBank,
+    /// In flight is taken over all banks but the named one.
+    InFlightOfOtherBanks,
+    /// In flight is taken over all banks but the last.
+    InFlightWithoutLast,
+    /// In flight is taken over eight banks at most.
+    InFlightOfEightBanks,
+    /// In flight is taken from cells that lie thread by thread.
+    InFlightThreadByThread,
+    /// In flight is taken modulo 2^32.
+    InFlightWraps,
+    /// An activation adds to in flight of bank 0.
+    FliesInBankZero,
+    /// A done is refused with 10 only if the thread has none in any bank.
+    DoneRefusedByTotal,
+    /// A done takes nothing from in flight.
+    DoneTakesNothing,
+    /// A done takes from in flight of bank 0.
+    DoneTakesFromBankZero,
+    /// A done takes from the first bank that has some of the thread's requests.
+    DoneTakesFromFirst,
+    /// The quota comes from the counter of bank 0.
+    QuotaOfBankZero,
+    /// A request is held by the quota of bank 0; the index answers it right.
+    RequestOfBankZero,
+    /// The quota comes from the thread's greatest counter over the banks.
+    QuotaOfGreatest,
     /// The quota holds only when in flight is above it.
     QuotaStrict,
     /// The bank, rank and row rules come before the quota.

@@ -7,6 +7,7 @@
 //! - `state`: the lent memory and refusals 6 and 7
 //! - `clock`: epochs and the clearing at an epoch turn
 //! - `decision`: the rules about a request and what an activation writes
+//! - `quota`: the quota rule, the thread's total in flight and what a done takes
 //! - `model`: the four calls (set-up, request, done, index)
 //! - `log`: the log checker and an encoder for logs
 //! - `fault`: wrong behaviours that can be switched on, one at a time
@@ -16,6 +17,7 @@ pub mod decision;
 pub mod fault;
 pub mod log;
 pub mod model;
+pub mod quota;
 pub mod setting;
 pub mod state;
 

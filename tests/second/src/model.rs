@@ -3,11 +3,12 @@
 //! nothing.
 
 use crate::clock::move_clock;
-use crate::decision::{count, decide, index_counter, open, quota};
+use crate::decision::{count, decide, open};
 use crate::decision::{Call, OPENED, QUOTA, WAIT_BANK, WAIT_ROW};
 use crate::fault::Fault;
+use crate::quota::{index_counter, none_in_flight, quota_in_test, take_in_flight};
 use crate::setting::{accept, Config, Rules};
-use crate::state::{thread_cell, State, IN_FLIGHT, LAST};
+use crate::state::{State, LAST};
 
 /// Set-up: clears the used parts of the lent memory and the head.
 pub fn setup(config: &Config, state: &mut State) -> u32 {
@@ -57,21 +58,21 @@ pub fn request(
     0
 }
 
-/// Report a request done: takes 1 from in flight.
+/// Report a request done: takes 1 from in flight of the bank, and so from the
+/// thread's total.
 pub fn done(config: &Config, state: &mut State, tick: u64, bank: u64, thread: u64) -> u32 {
     let (rules, call) = match enter(config, state, tick, bank, thread) {
         Ok(entered) => entered,
         Err(number) => return number,
     };
-    let cell = thread_cell(&rules, call.bank, call.thread) + IN_FLIGHT;
-    if state.threads[cell] == 0 {
+    if none_in_flight(&rules, state, &call) {
         if rules.has(Fault::RefusedDoneMovesClock) {
             move_clock(&rules, state, &call);
         }
         return 10;
     }
     move_clock(&rules, state, &call);
-    state.threads[cell] = state.threads[cell].saturating_sub(1); // 0 only by a fault
+    take_in_flight(&rules, state, &call);
     0
 }
 
@@ -97,8 +98,8 @@ pub fn index(
         c
     };
     let quota = match rules.fault {
-        Fault::IndexRoundsDown => quota(&rules.with(Fault::QuotaRoundsDown), c),
-        _ => quota(&rules, c),
+        Fault::IndexRoundsDown => quota_in_test(&rules.with(Fault::QuotaRoundsDown), state, &call),
+        _ => quota_in_test(&rules, state, &call),
     };
     *out = [shown, rules.d, quota];
     if let Some(before) = before {

@@ -39,7 +39,7 @@ pub struct Rules<'a> {
     pub n: u64,
     /// Delay of a blacklisted row.
     pub td: u64,
-    /// Most requests in flight for a thread in a bank.
+    /// Most requests in flight for a thread, over all banks.
     pub q: u64,
     pub banks: usize,
     pub threads: usize,

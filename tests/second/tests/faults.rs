@@ -1,25 +1,11 @@
 //! Every wrong behaviour that can be switched on shows in a campaign of small
 //! runs, on memory set up and on memory of any contents.
 
+mod common;
+
+use common::{Numbers, BANKS, L, N, Q, TD, THREADS, W};
 use second::setting::{accept, history_length, house_seeds, row_bound};
 use second::{done, index, request, setup, Config, Fault, State};
-
-/// Xorshift numbers, the same on every run.
-struct Numbers(u64);
-
-impl Numbers {
-    /// A number from low to high.
-    fn within(&mut self, low: u64, high: u64) -> u64 {
-        self.0 ^= self.0 << 13;
-        self.0 ^= self.0 >> 7;
-        self.0 ^= self.0 << 17;
-        low + (self.0 >> 11) % (high - low + 1)
-    }
-
-    fn one_in(&mut self, many: u64) -> bool {
-        self.within(1, many) == 1
-    }
-}
 
 /// One call of a run.
 #[derive(Clone, Copy)]
@@ -47,18 +33,19 @@ fn setting(numbers: &mut Numbers) -> [u64; 9] {
     let td = numbers.within(trc, w / 2);
     let tfaw = numbers.within(1, 9);
     let q = numbers.within(1, 5);
-    let (banks, threads) = (numbers.within(1, 3), numbers.within(1, 2));
+    let many = if numbers.one_in(10) { 16 } else { 3 };
+    let (banks, threads) = (numbers.within(1, many), numbers.within(1, 2));
     let mut setting = [w, trc, tfaw, n, td, 1, q, banks, threads];
     let bound = row_bound(&Config::new(setting, &[])).unwrap() as u64;
     let spare = numbers.within(0, 8);
-    setting[5] = if spare == 8 { bound - 1 } else { bound + spare };
+    setting[L] = if spare == 8 { bound - 1 } else { bound + spare };
     setting
 }
 
 /// Memory just long enough for a setting, accepted or not.
 fn fresh(setting: &[u64; 9]) -> State {
     let h = history_length(&Config::new(*setting, &[])).unwrap() as usize;
-    let (banks, threads) = (setting[7] as usize, setting[8] as usize);
+    let (banks, threads) = (setting[BANKS] as usize, setting[THREADS] as usize);
     State {
         head: [0; 22],
         counters: vec![0; banks * 2048],
@@ -88,14 +75,37 @@ fn fill(numbers: &mut Numbers, setting: &[u64; 9], state: &mut State) {
     ticks.rotate_right((state.head[1] % h) as usize);
     state.ticks = ticks;
     for word in &mut state.rows {
-        *word = (numbers.within(0, setting[7]) * 65_536 + numbers.within(0, 2)) as u32;
+        *word = (numbers.within(0, setting[BANKS]) * 65_536 + numbers.within(0, 2)) as u32;
     }
     for cell in &mut state.counters {
-        *cell = numbers.within(0, setting[3] + 2) as u16;
+        *cell = numbers.within(0, setting[N] + 2) as u16;
     }
     for cell in &mut state.threads {
         let top = if numbers.one_in(5) { 20 } else { 1 };
         *cell = numbers.within(0, top) as u32;
+    }
+    for thread in 0..setting[THREADS] {
+        if numbers.one_in(2) {
+            spread(numbers, setting, thread, &mut state.threads);
+        }
+    }
+}
+
+/// Spreads up to Q + 1 requests in flight of a thread over the banks. In one
+/// case of four the sum is greater by 2^32.
+fn spread(numbers: &mut Numbers, setting: &[u64; 9], thread: u64, cells: &mut [u32]) {
+    let place = |bank| ((bank * setting[THREADS] + thread) * 3 + 2) as usize;
+    let last = setting[BANKS] - 1;
+    for bank in 0..=last {
+        cells[place(bank)] = 0;
+    }
+    for _ in 0..numbers.within(0, setting[Q] + 1) {
+        cells[place(numbers.within(0, last))] += 1;
+    }
+    if last > 0 && numbers.one_in(4) {
+        let bank = numbers.within(0, last - 1);
+        cells[place(bank)] += 1 << 31;
+        cells[place(numbers.within(bank + 1, last))] += 1 << 31;
     }
 }
 
@@ -132,16 +142,16 @@ fn calls(numbers: &mut Numbers, setting: &[u64; 9], mut tick: u64) -> Vec<Call> 
         tick = match numbers.within(0, 11) {
             0..=4 => tick,
             5..=8 => tick + 1,
-            9 => tick + numbers.within(1, setting[4]),
-            10 => (tick / (setting[0] / 2) + numbers.within(1, 3)) * (setting[0] / 2),
+            9 => tick + numbers.within(1, setting[TD]),
+            10 => (tick / (setting[W] / 2) + numbers.within(1, 3)) * (setting[W] / 2),
             _ => tick.saturating_sub(numbers.within(0, 1)),
         };
         let outside = u64::from(numbers.one_in(20));
         Call {
             kind: numbers.within(0, 5),
             tick,
-            bank: numbers.within(0, setting[7] - 1 + outside),
-            thread: numbers.within(0, setting[8] - 1),
+            bank: numbers.within(0, setting[BANKS] - 1 + outside),
+            thread: numbers.within(0, setting[THREADS] - 1),
             row: numbers.within(0, 2) as u16,
         }
     };
@@ -149,7 +159,7 @@ fn calls(numbers: &mut Numbers, setting: &[u64; 9], mut tick: u64) -> Vec<Call> 
 }
 
 fn run(seed: u64) -> Run {
-    let numbers = &mut Numbers(seed.wrapping_mul(0x9E37_79B9_7F4A_7C15) | 1);
+    let numbers = &mut Numbers::new(seed);
     let long = numbers.one_in(8);
     let setting = if long { LONG } else { setting(numbers) };
     let mut seeds = house_seeds();
@@ -211,7 +221,7 @@ fn shows(run: &Run, fault: Fault) -> bool {
 
 #[test]
 fn every_fault_shows() {
-    assert!(Fault::ALL.len() >= 60);
+    assert!(Fault::ALL.len() >= 75);
     assert_eq!(Fault::default(), Fault::None);
     for &fault in Fault::ALL {
         let found = (1..2000).any(|seed| shows(&run(seed), fault));

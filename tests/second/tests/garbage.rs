@@ -6,8 +6,6 @@ use common::*;
 use second::setting::{accept, house_seeds};
 use second::{setup, Config, State};
 
-const OPENED: Result<[u64; 2], u32> = Ok([0, 0]);
-
 #[test]
 fn refusals_of_the_setting() {
     let seeds = house_seeds();

@@ -5,10 +5,9 @@
 mod common;
 
 use common::*;
-use second::decision::quota;
-use second::log::{check, encode, Record, Report};
+use second::quota::quota;
 use second::setting::{accept, house_seeds};
-use second::{done, request, Config, Fault, State};
+use second::{Config, Fault};
 
 /// The quota with this Q and D where the counter is c. N is 1, so that D may be
 /// 2 and more.
@@ -140,64 +139,9 @@ fn requests_that_the_rounding_decides() {
     }
 }
 
-/// Requests and a few dones under S at random ticks, each with the answer that
-/// the quota rounded down gives. Three in four requests are for row 5.
-fn rounded_down(seed: u64) -> Vec<Record> {
-    let seeds = house_seeds();
-    let config = Config::new(S, &seeds).with(Fault::QuotaRoundsDown);
-    let mut state = State::cleared(&accept(&config).unwrap());
-    let mut word = seed;
-    let mut tick = 0;
-    let mut note = || {
-        word = word.wrapping_mul(6_364_136_223_846_793_005).wrapping_add(1);
-        tick += (word >> 33) % 4;
-        let mut record = Record {
-            tick,
-            row: if (word >> 41).is_multiple_of(4) { 6 } else { 5 },
-            kind: u8::from((word >> 37).is_multiple_of(8)),
-            ..Record::default()
-        };
-        if record.kind == 1 && done(&config, &mut state, tick, 0, 0) == 0 {
-            return record;
-        }
-        let mut out = [0, 0];
-        assert_eq!(
-            request(&config, &mut state, tick, 0, 0, record.row, &mut out),
-            0
-        );
-        (record.kind, record.answer, record.wait) = (0, out[0] as u8, out[1]);
-        record
-    };
-    (0..30).map(|_| note()).collect()
-}
-
-/// The first record that the two roundings decide differently: its answer
-/// rounded down is quota, and to the nearest it is not.
-fn first_other(records: &[Record]) -> Option<usize> {
-    let mut throttle = Throttle::new(S);
-    records.iter().position(|record| match record.kind {
-        0 => {
-            let out = throttle.at(record.tick, 0, 0, record.row).unwrap();
-            record.answer == 4 && out[0] != 4
-        }
-        _ => throttle.done(record.tick, 0, 0) != 0,
-    })
-}
-
 #[test]
 fn a_log_of_the_old_rounding_differs_where_the_two_decide_differently() {
-    let mut seen = [0, 0];
-    for seed in 0..300 {
-        let records = rounded_down(seed);
-        let log = encode(&S, &house_seeds(), &records);
-        let differs = |fault| match check(&log, fault) {
-            Report::Judged { differs, .. } => differs,
-            refused => panic!("{refused}"),
-        };
-        assert_eq!(differs(Fault::QuotaRoundsDown), None);
-        let place = |k: usize| (1 + k as u64 / 20, 1 + k as u64 % 20);
-        assert_eq!(differs(Fault::None), first_other(&records).map(place));
-        seen[usize::from(differs(Fault::None).is_some())] += 1;
+    for [old, new] in where_old_logs_differ(S, Fault::QuotaRoundsDown) {
+        assert!(old == 4 && new != 4, "{old} {new}");
     }
-    assert!(seen.iter().all(|&count| count > 20), "{seen:?}");
 }

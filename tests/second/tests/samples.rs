@@ -7,13 +7,6 @@ use second::decision::hash;
 use second::setting::{history_length, house_seeds, row_bound};
 use second::Config;
 
-const OPENED: Result<[u64; 2], u32> = Ok([0, 0]);
-const QUOTA: Result<[u64; 2], u32> = Ok([4, 0]);
-
-fn wait_row(until: u64) -> Result<[u64; 2], u32> {
-    Ok([3, until])
-}
-
 fn bound_and_length(setting: [u64; 9]) -> (Option<u128>, Option<u128>) {
     let config = Config::new(setting, &[]);
     (row_bound(&config), history_length(&config))

@@ -2,7 +2,8 @@
 //! the rules, each with the answer and the wait tick that they give.
 //!
 //! Arguments: STYLE SEED RECORDS START KEYS W TRC TFAW N TD L Q BANKS THREADS
-//! and, if the quota is to be rounded down as document 01 has it, `down`.
+//! and, for a rule of document 01 in place of the present one, `down` for the
+//! quota rounded down or `bank` for in flight of the named bank alone.
 //! STYLE is `random` for requests and dones at random ticks around those that
 //! matter, or `controller` for threads that wait as told, of which thread 0
 //! asks for two rows of bank 0 in turn. START is the tick of the first record.
@@ -39,7 +40,7 @@ impl Numbers {
 struct Logger {
     setting: [u64; 9],
     seeds: Vec<u16>,
-    /// `QuotaRoundsDown` or none.
+    /// A rule of document 01 in place of the present one, or none.
     fault: Fault,
     state: State,
     records: Vec<Record>,
@@ -191,14 +192,20 @@ fn controller(logger: &mut Logger, numbers: &mut Numbers, records: u64, start: u
     }
 }
 
+/// Takes the rule of document 01 that the last argument names, if it names one.
+fn old_rule(arguments: &mut Vec<String>) -> Fault {
+    let fault = match arguments.last().map(String::as_str) {
+        Some("down") => Fault::QuotaRoundsDown,
+        Some("bank") => Fault::InFlightOfBank,
+        _ => return Fault::None,
+    };
+    arguments.pop();
+    fault
+}
+
 fn main() -> io::Result<()> {
     let mut arguments: Vec<String> = std::env::args().skip(1).collect();
-    let down = arguments.pop_if(|word| word == "down").is_some();
-    let fault = if down {
-        Fault::QuotaRoundsDown
-    } else {
-        Fault::None
-    };
+    let fault = old_rule(&mut arguments);
     let words: Vec<u64> = arguments
         .iter()
         .skip(1)
