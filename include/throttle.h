@@ -47,7 +47,8 @@ struct throttle_setting {
     uint64_t n;       /* blacklisting threshold N: 1 to 32,768 */
     uint64_t td;      /* delay tD of a blacklisted row: 1 to 2^29 */
     uint64_t l;       /* most activations L of a row in W ticks: 1 to 2^24 */
-    uint64_t q;       /* most requests Q in flight for a thread, over all banks: 1 to 255 */
+    uint64_t q;       /* most requests Q in flight for a thread, over all banks: 1 to 255, as many
+                         as the controller may have of one thread */
     uint64_t banks;   /* 1 to 16, each of 65,536 rows */
     uint64_t threads; /* 1 to 32 */
 };

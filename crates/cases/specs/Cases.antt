@@ -3,6 +3,7 @@ use mathlib.Core.Path.{_≡_}
 use mathlib.Core.List.{List, [], _∷_, _++_, map}
 use Prim.Native.Nat.{ℕ}
 use lib.ListN.{getD, replicate}
+use Rattle.rules.specs.declared.Setting.{Setting}
 use Rattle.rules.specs.Answers.{none, aboveLimit, refusalNumber, answerNumber, answerWait}
 use Rattle.rules.specs.Setting.{historyLength, rowBound, settingRefusal}
 use Rattle.rules.specs.State.{State, headOf, fresh, threadCell}
@@ -12,16 +13,20 @@ use Rattle.rules.specs.Policy.{Policy, limits01}
 use Rattle.rules.specs.Calls.{Call, request, done, index, Reply, refused, answered, finished, shown, setupRefusal, replies, after}
 use Rattle.rules.specs.Samples.{house, settingS, S, tableOne}
 
--- buffers of S with other contents, which set-up clears
-unfoldable pub before : State
-before =
+-- buffers with a history of 8 places and so many counters and thread counters, with contents that set-up clears
+abbrev pub lent : ℕ → ℕ → State
+lent counters threads =
     record {
       head = headOf (replicate 22 5);
-      counters = replicate 2048 7;
+      counters = replicate counters 7;
       ticks = replicate 8 3;
       rows = replicate 8 1;
-      threads = replicate 3 9;
+      threads = replicate threads 9;
     }
+
+-- those of S
+unfoldable pub before : State
+before = lent 2048 3
 
 -- what document 01 names of a reply: the return code, and the answer's number with the wait tick, or c, D and the quota
 abbrev pub told : Reply → List ℕ
@@ -30,9 +35,13 @@ told (answered a) = 0 ∷ answerNumber a ∷ answerWait a ∷ []
 told finished = 0 ∷ []
 told (shown c scale quota) = 0 ∷ c ∷ scale ∷ quota ∷ []
 
--- what is told by a run under S and a policy, and a request and a done of its one bank and thread; the row is 5
+-- what is told by a run after set-up, under a setting and a policy
+abbrev pub runOf : Setting → State → Policy → List Call → List (List ℕ)
+runOf s st p cs = map told (replies p s house (fresh s st) cs)
+
+-- the same under S, and a request and a done of its one bank and thread; the row is 5
 abbrev pub run : Policy → List Call → List (List ℕ)
-run p cs = map told (replies p S house (fresh S before) cs)
+run p cs = runOf S before p cs
 
 abbrev pub ask : ℕ → Call
 ask t = request t 0 0 5

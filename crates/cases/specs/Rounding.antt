@@ -1,9 +1,10 @@
 -- The cases of document 02, d: quotas at an exact half, and lists of records before and after the change of rounding.
 use mathlib.Core.Path.{_≡_}
 use mathlib.Core.List.{List, [], _∷_, _++_, map}
-use Prim.Native.Nat.{ℕ}
+use Rattle.rules.specs.declared.Setting.{Setting}
 use Rattle.rules.specs.Answers.{none}
 use Rattle.rules.specs.Setting.{indexScale, settingRefusal}
+use Rattle.rules.specs.State.{State}
 use Rattle.rules.specs.Quota.{quotaDown, quotaEven}
 use Rattle.rules.specs.Policy.{Policy, limits01, document01, narrow}
 use Rattle.rules.specs.Samples.{house, settingS, S}
@@ -12,9 +13,12 @@ use Rattle.log_format.specs.Verdict.{agrees, differs, Verdict, judged, Running,
 use Rattle.log_samples.specs.Samples.{asks}
 use Rattle.cases.specs.Cases.{before, run, opened, waitRow, toTick8, flying}
 
--- what is judged of these records as those of block 1, after set-up with S, under a policy
+-- what is judged of records as those of block 1, after set-up with a setting, under a policy
+abbrev pub judgedOf : Setting → State → Policy → List Entry → Verdict
+judgedOf s st p es = verdictOf (judgeRecords p (setUp s house st) es) (λ (y : Running). judged (y .progress .records) (y .progress .opened) agrees)
+
 abbrev pub judgedRecords : Policy → List Entry → Verdict
-judgedRecords p es = verdictOf (judgeRecords p (setUp S house before) es) (λ (y : Running). judged (y .progress .records) (y .progress .opened) agrees)
+judgedRecords p es = judgedOf S before p es
 
 -- the requests at ticks 0, 1, 2 and 7 as both roundings decide them, and what the old one says at tick 8
 abbrev pub four : List Entry

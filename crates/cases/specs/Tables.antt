@@ -1,4 +1,4 @@
--- The whole table of cases, with a joint statement: of document 01's rules and of those in force. One line differs.
+-- The whole table of cases, with a joint statement: of document 01's rules and of those in force. One line of document 01 differs.
 use mathlib.Core.Path.{_≡_}
 use mathlib.Core.List.{[], _∷_}
 use Rattle.rules.specs.Policy.{document01, narrow}

@@ -1,38 +1,31 @@
 -- The cases of document 02, b: a thread with requests in two banks, and lists of records before and after the change of what in flight means.
 use mathlib.Core.Path.{_≡_}
-use mathlib.Core.List.{List, [], _∷_, _++_, map}
+use mathlib.Core.List.{List, [], _∷_, _++_}
 use Prim.Native.Nat.{ℕ}
-use lib.ListN.{replicate}
 use Rattle.rules.specs.declared.Setting.{Setting}
 use Rattle.rules.specs.Answers.{none}
 use Rattle.rules.specs.Setting.{settingOf}
-use Rattle.rules.specs.State.{State, headOf, fresh}
+use Rattle.rules.specs.State.{State, fresh}
 use Rattle.rules.specs.Quota.{inFlightHere, inFlightTotal}
 use Rattle.rules.specs.Policy.{Policy, limits01, document01, narrow}
-use Rattle.rules.specs.Calls.{Call, request, done, index, setupRefusal, replies, after}
+use Rattle.rules.specs.Calls.{Call, request, done, index, setupRefusal, after}
 use Rattle.rules.specs.Samples.{house}
 use Rattle.log_format.specs.declared.Entry.{Entry}
-use Rattle.log_format.specs.Verdict.{agrees, differs, Verdict, judged, Running, setUp, judgeRecords, verdictOf}
-use Rattle.cases.specs.Cases.{told, opened, finish}
+use Rattle.log_format.specs.Verdict.{agrees, differs, judged}
+use Rattle.cases.specs.Cases.{lent, runOf, opened, finish}
+use Rattle.cases.specs.Rounding.{judgedOf}
 
 -- S with 2 banks, 2 threads and Q 1
 unfoldable pub S2 : Setting
 S2 = settingOf (40 ∷ 1 ∷ 4 ∷ 2 ∷ 6 ∷ 10 ∷ 1 ∷ 2 ∷ 2 ∷ [])
 
--- buffers of S2 with other contents, which set-up clears
+-- the buffers of S2
 unfoldable pub before2 : State
-before2 =
-    record {
-      head = headOf (replicate 22 5);
-      counters = replicate 4096 7;
-      ticks = replicate 8 3;
-      rows = replicate 8 1;
-      threads = replicate 12 9;
-    }
+before2 = lent 4096 12
 
 -- what is told by a run under S2 and a policy, and the thread counters that it leaves
 abbrev pub run2 : Policy → List Call → List (List ℕ)
-run2 p cs = map told (replies p S2 house (fresh S2 before2) cs)
+run2 p cs = runOf S2 before2 p cs
 
 abbrev pub left2 : Policy → List Call → List ℕ
 left2 p cs = after p S2 house (fresh S2 before2) cs .threads
@@ -48,7 +41,7 @@ endsBank t bank = done t bank 0
 abbrev pub overQuota : List ℕ
 overQuota = 0 ∷ 4 ∷ 0 ∷ []
 
--- Row 5 of bank 0, each done reported before the next, until 4 openings of it were blacklisted: its counter in test is then 4.
+-- Row 5 of bank 0, each done reported before the next, until it was opened 4 times while blacklisted: the counter in test is then 4.
 abbrev pub hammered : List Call
 hammered =
     asksBank 0 0 ∷ endsBank 0 0 ∷ asksBank 1 0 ∷ endsBank 1 0 ∷ asksBank 7 0 ∷ endsBank 7 0 ∷ asksBank 13 0 ∷ endsBank 13 0 ∷ asksBank 19 0 ∷ endsBank 19 0
@@ -59,10 +52,6 @@ abbrev pub two : ℕ → List Entry
 two answer =
     record { tick = 0; wait = 0; row = 5; bank = 0; thread = 0; kind = 0; answer = 0 }
     ∷ record { tick = 1; wait = 0; row = 5; bank = 1; thread = 0; kind = 0; answer = answer } ∷ []
-
--- what is judged of records as those of block 1, after set-up with S2, under a policy
-abbrev pub judgedTwo : Policy → List Entry → Verdict
-judgedTwo p es = verdictOf (judgeRecords p (setUp S2 house before2) es) (λ (y : Running). judged (y .progress .records) (y .progress .opened) agrees)
 
 pub record Totals : Type 0 where
   pub accepted : setupRefusal limits01 S2 house before2 ≡ none
@@ -82,6 +71,6 @@ pub record Totals : Type 0 where
       ≡ opened ∷ finish ∷ opened ∷ finish ∷ opened ∷ finish ∷ opened ∷ finish ∷ opened ∷ finish ∷ opened ∷ finish
       ∷ (0 ∷ 4 ∷ 8 ∷ 0 ∷ []) ∷ overQuota ∷ (0 ∷ 0 ∷ 8 ∷ 1 ∷ []) ∷ opened ∷ []
   -- records that agreed by the bank's own count and differ now, at the second, and records that agree now
-  pub oldTwo : judgedTwo document01 (two 0) ≡ judged 2 2 agrees
-  pub newTwo : judgedTwo narrow (two 0) ≡ judged 2 1 (differs 1 2)
-  pub heldTwo : judgedTwo narrow (two 4) ≡ judged 2 1 agrees
+  pub oldTwo : judgedOf S2 before2 document01 (two 0) ≡ judged 2 2 agrees
+  pub newTwo : judgedOf S2 before2 narrow (two 0) ≡ judged 2 1 (differs 1 2)
+  pub heldTwo : judgedOf S2 before2 narrow (two 4) ≡ judged 2 1 agrees

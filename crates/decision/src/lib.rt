@@ -9,7 +9,7 @@ ghost use Rattle.decision.specs.Numbers.{decideFrom};
 
 // What the decision looks at, read from the state turned to the request's tick.
 pub struct View {
-    // The thread's requests in flight, and its quota.
+    // The thread's requests in flight, over all banks, and its quota in the bank.
     pub flying: u64,
     pub quota: u64,
     // The stored ticks of the bank's last activation and of the rank's fourth last.

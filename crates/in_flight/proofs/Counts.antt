@@ -1,13 +1,12 @@
 -- The total gains the thread's openings and loses its dones, call by call and so over every list.
-use mathlib.Core.Path.{_≡_, refl, sym, ap, _∙_}
-use mathlib.Core.Logic.{_≢_}
-use mathlib.Core.List.{List, [], _∷_, _++_}
+use mathlib.Core.Path.{_≡_, refl, sym, _∙_}
+use mathlib.Core.List.{List, [], _∷_}
 use mathlib.Core.Bool.{Bool, true, false}
 use Prim.Native.Nat.{ℕ, _+_, _-_, _≤_, _<_}
 use native.Mathlib.Omega.{arith}
 use native.Mathlib.Decide.{ℕ-discrete}
-use lib.Dec.{T, ltb, eqb, lt→ltb}
-use lib.ListN.{length, getD, set}
+use lib.Dec.{ltb, eqb, lt→ltb}
+use lib.ListN.{length, set}
 use borrow.Author.Tests.{eq-eqb, ne-eqb}
 use Rattle.rules.specs.declared.Setting.{Setting}
 use Rattle.rules.specs.declared.Answer.{Answer}
@@ -22,7 +21,7 @@ use Rattle.rules.specs.Quota.{inFlightHere, inFlightTotal}
 use Rattle.rules.specs.Policy.{Policy}
 use Rattle.rules.specs.Decision.{activeEstimate, decide, activated}
 use Rattle.rules.specs.Tested.{Taken}
-use Rattle.rules.specs.Calls.{Call, request, done, index, Reply, refused, answered, Outcome, outcome, callTick, callBank, callThread, afterAnswer, requested, reported, indexShown, refusalOf, performed, step, replies, after, activationOf, activations}
+use Rattle.rules.specs.Calls.{Call, request, done, index, refused, answered, Outcome, outcome, afterAnswer, requested, reported, indexShown, refusalOf, performed, step, replies, after, activationOf, activations}
 use Rattle.rules.proofs.Accept.{not-zero, done-taken, call-taken}
 use Rattle.rules.proofs.Clearing.{clear-zero}
 use Rattle.rules.proofs.Counting.{count-append}

@@ -7,7 +7,7 @@ use native.Mathlib.Omega.{arith}
 use lib.Dec.{eqb, eqb→eq}
 use borrow.Author.Tests.{eq-eqb, ne-eqb}
 use Rattle.rules.specs.declared.Setting.{Setting}
-use Rattle.rules.specs.Answers.{none, noneInFlight, refuse}
+use Rattle.rules.specs.Answers.{none, noneInFlight}
 use Rattle.rules.specs.State.{State}
 use Rattle.rules.specs.Quota.{inFlightHere, inFlightTotal}
 use Rattle.rules.specs.Policy.{Policy}
@@ -15,7 +15,7 @@ use Rattle.rules.specs.Calls.{done, refused, finished, returnCode, callRefusal,
 use Rattle.rules.specs.Cells.{more}
 use Rattle.rules.proofs.Tests.{holds, fails}
 use Rattle.rules.proofs.Accept.{not-zero, taken}
-use Rattle.in_flight.specs.Claims.{isDoneOf, openingsOf, DoneInBank, DoneByBank}
+use Rattle.in_flight.specs.Claims.{isDoneOf, DoneByBank}
 use Rattle.in_flight.proofs.Counts.{step-moved}
 
 module _ (p : Policy) (s : Setting) (seeds : List ℕ) (st : State) (t bank thread : ℕ) (e : callRefusal (p .limits) s seeds st t bank thread ≡ none) where

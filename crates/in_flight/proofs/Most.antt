@@ -1,7 +1,7 @@
 -- Under the rules in force a thread's total is never above Q: only an opening raises it, and one is made only where the total is below the quota.
 use mathlib.Core.Path.{_≡_, refl, ap, subst}
 use mathlib.Core.List.{List, [], _∷_}
-use Prim.Native.Nat.{ℕ, _+_, _≤_, _<_}
+use Prim.Native.Nat.{ℕ, _≤_, _<_}
 use native.Mathlib.Omega.{arith}
 use native.Mathlib.Decide.{ℕ-discrete}
 use lib.Dec.{eqb, ltb→lt}
@@ -20,7 +20,7 @@ use Rattle.rules.specs.Quota.{quotaEven, inFlightTotal, indexCounter}
 use Rattle.rules.specs.Policy.{Policy, inForce}
 use Rattle.rules.specs.Decision.{decide, activated}
 use Rattle.rules.specs.Tested.{Taken}
-use Rattle.rules.specs.Calls.{Call, request, done, index, outcome, answered, afterAnswer, requested, reported, indexShown, refusalOf, performed, step, after}
+use Rattle.rules.specs.Calls.{Call, request, done, index, afterAnswer, requested, reported, indexShown, refusalOf, performed, step, after}
 use Rattle.rules.proofs.Accept.{scale-pos, call-taken}
 use Rattle.rules.proofs.Memory.{turned-long}
 use Rattle.rules.proofs.Regular.{quota-most}

@@ -3,21 +3,22 @@ use mathlib.Core.Path.{_≡_, refl, sym, ap, _∙_, subst}
 use mathlib.Core.Logic.{_≢_, _⊎_, inl, inr}
 use mathlib.Core.List.{List, [], _∷_, _++_}
 use mathlib.Core.Bool.{Bool, true, false}
-use Prim.Native.Nat.{ℕ, _+_}
+use Prim.Native.Nat.{ℕ}
 use native.Mathlib.Omega.{arith}
 use lib.ListN.{length}
 use Rattle.rules.specs.declared.Setting.{Setting}
 use Rattle.rules.specs.State.{State, fresh}
+use Rattle.rules.specs.Quota.{quotaDown, quotaEven, inFlightHere, inFlightTotal}
 use Rattle.rules.specs.Policy.{Policy, document01, narrow}
 use Rattle.rules.specs.Calls.{Reply, refused, answered, finished, shown, Outcome, step, replies, after, activations}
 use Rattle.rules.specs.Claims.{withLimits}
 use Rattle.log_format.specs.declared.Entry.{Entry}
 use Rattle.log_format.specs.Contents.{callOf}
 use Rattle.log_format.specs.Verdict.{agrees, judged, claims, memory, verdict}
-use Rattle.log_format.specs.Claims.{callsOf, recordsOf, settingOfLog, seedsOfLog, laterOf, rulesOpen, Decision, Decided, Faithful}
+use Rattle.log_format.specs.Claims.{callsOf, recordsOf, settingOfLog, seedsOfLog, rulesOpen, Decision, Decided, Faithful}
 use Rattle.log_format.proofs.Records.{claims-true, true-claims, DecidedFrom, decided-append}
 use Rattle.log_format.proofs.Agrees.{only-if, whenever}
-use Rattle.policies.specs.Claims.{saidOf, differsAfter, FirstDifferent, Becomes, AfterChange, roundedDown, roundedEven, AfterRounding, ofBank, ofThread, AfterTotal, SinceDocument01}
+use Rattle.policies.specs.Claims.{saidOf, differsAfter, FirstDifferent, Becomes, AfterChange, policyOf, AfterRounding, AfterTotal, SinceDocument01}
 use Rattle.policies.proofs.Lists.{same-first, same-others, same-cons}
 use Rattle.policies.proofs.Differs.{replies-last, differs-at-first}
 use Rattle.policies.proofs.Same.{step-state, after-same, never-refuses, decided-same}
@@ -166,10 +167,10 @@ pub after-change : (p q : Policy) → AfterChange p q
 after-change p q e bytes r o h = subst (λ (x : Policy). Becomes p x bytes r o) (own-limits p q e) (becomes p q bytes r o h)
 
 pub after-rounding : AfterRounding
-after-rounding m flying = after-change (roundedDown m flying) (roundedEven m flying) refl
+after-rounding m flying = after-change (policyOf m quotaDown flying) (policyOf m quotaEven flying) refl
 
 pub after-total : AfterTotal
-after-total m quota = after-change (ofBank m quota) (ofThread m quota) refl
+after-total m quota = after-change (policyOf m quota inFlightHere) (policyOf m quota inFlightTotal) refl
 
 pub since-document01 : SinceDocument01
 since-document01 = after-change document01 narrow refl

@@ -66,54 +66,32 @@ pub record Becomes (p q : Policy) (bytes : List ℕ) (r o : ℕ) : Type 0 where
   pub either : (verdict q bytes ≡ judged r o agrees)
       ⊎ ((before : List Entry) × (e : Entry) × (rest : List Entry) × (recordsOf bytes ≡ before ++ (e ∷ rest)) × FirstDifferent p q bytes before e)
 
+-- of every log that agrees under p
+abbrev pub LogsBecome : Policy → Policy → Type 0
+LogsBecome p q = (bytes : List ℕ) (r o : ℕ) → verdict p bytes ≡ judged r o agrees → Becomes p q bytes r o
+
 -- for any two policies with the same limits
 abbrev pub AfterChange : Policy → Policy → Type 0
-AfterChange p q = p .limits ≡ q .limits → (bytes : List ℕ) (r o : ℕ) → verdict p bytes ≡ judged r o agrees → Becomes p q bytes r o
+AfterChange p q = p .limits ≡ q .limits → LogsBecome p q
 
--- ---- request d
+-- ---- the requests
 
--- a rule of what in flight means
-abbrev pub InFlight : Type 0
-InFlight = Setting → List ℕ → ℕ → ℕ → ℕ
+-- the policy of these limits, with a rule of the quota and a rule of what in flight means
+abbrev pub policyOf : Limits → (Setting → ℕ → ℕ) → (Setting → List ℕ → ℕ → ℕ → ℕ) → Policy
+policyOf m quota flying = record { limits = m; quota = quota; inFlight = flying }
 
--- the policies with the old and the new rounding of the quota
-abbrev pub roundedDown : Limits → InFlight → Policy
-roundedDown m flying = record { limits = m; quota = quotaDown; inFlight = flying }
-
-abbrev pub roundedEven : Limits → InFlight → Policy
-roundedEven m flying = record { limits = m; quota = quotaEven; inFlight = flying }
-
--- "A log that agreed under the old rounding differs at the first entry that the two roundings decide differently, and agrees if there is none."
+-- Request d: "A log that agreed under the old rounding differs at the first entry that the two roundings decide differently, and agrees if there is none."
 abbrev pub AfterRounding : Type 0
-AfterRounding =
-    (m : Limits) (flying : InFlight) (bytes : List ℕ) (r o : ℕ) → verdict (roundedDown m flying) bytes ≡ judged r o agrees
-    → Becomes (roundedDown m flying) (roundedEven m flying) bytes r o
+AfterRounding = (m : Limits) (flying : Setting → List ℕ → ℕ → ℕ → ℕ) → LogsBecome (policyOf m quotaDown flying) (policyOf m quotaEven flying)
 
--- ---- request b
-
--- a rule of the quota
-abbrev pub QuotaRule : Type 0
-QuotaRule = Setting → ℕ → ℕ
-
--- the policies in which in flight is the named bank's own count, as document 01 has it, and the thread's total over all banks
-abbrev pub ofBank : Limits → QuotaRule → Policy
-ofBank m quota = record { limits = m; quota = quota; inFlight = inFlightHere }
-
-abbrev pub ofThread : Limits → QuotaRule → Policy
-ofThread m quota = record { limits = m; quota = quota; inFlight = inFlightTotal }
-
--- "Logs are judged by the new total.": a log that agreed by the bank's own count differs at the first entry that count and total decide differently, and
--- agrees if there is none. With `quotaEven` and document 01's limits these are the rules before request b and those in force.
+-- Request b: "Logs are judged by the new total.": a log that agreed by the named bank's own count differs at the first entry that count and total decide
+-- differently, and agrees if there is none. With `quotaEven` and document 01's limits these are the rules before request b and those in force.
 abbrev pub AfterTotal : Type 0
-AfterTotal =
-    (m : Limits) (quota : QuotaRule) (bytes : List ℕ) (r o : ℕ) → verdict (ofBank m quota) bytes ≡ judged r o agrees
-    → Becomes (ofBank m quota) (ofThread m quota) bytes r o
+AfterTotal = (m : Limits) (quota : Setting → ℕ → ℕ) → LogsBecome (policyOf m quota inFlightHere) (policyOf m quota inFlightTotal)
 
--- ---- since document 01
-
--- the same of logs of document 01's rules and the rules in force
+-- both, of logs of document 01's rules and the rules in force
 abbrev pub SinceDocument01 : Type 0
-SinceDocument01 = (bytes : List ℕ) (r o : ℕ) → verdict document01 bytes ≡ judged r o agrees → Becomes document01 narrow bytes r o
+SinceDocument01 = LogsBecome document01 narrow
 
 -- ---- all of it
 

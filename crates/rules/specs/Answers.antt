@@ -48,7 +48,7 @@ refusalNumber badMemory = 7
 refusalNumber outsideSetting = 8
 -- "9 tick before the last one, or 2^62 or more."
 refusalNumber badTick = 9
--- "10 done with none in flight."
+-- "10 done with none in flight."; document 02, b: "exactly if that bank has none of the thread's requests"
 refusalNumber noneInFlight = 10
 
 -- "Checked in this order, as far as the call has them; the first is given."

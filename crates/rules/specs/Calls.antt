@@ -66,7 +66,7 @@ callRefusal m s seeds st tick bank thread =
     (refuse (leb (s .banks) bank || leb (s .threads) thread) outsideSetting
     (refuse (ltb tick (st .head .last) || leb (2 ^ 62) tick) badTick none))))
 
--- and 10, by the bank's own count
+-- and 10, by the bank's own count: document 02, b: "refused with 10 exactly if that bank has none of the thread's requests"
 unfoldable pub doneRefusal : Limits → Setting → List ℕ → State → ℕ → ℕ → ℕ → Refusal
 doneRefusal m s seeds st tick bank thread =
     orElse (callRefusal m s seeds st tick bank thread)
@@ -92,7 +92,7 @@ requested p s at st bank thread row =
     let a = decide p s at st bank thread row in
     record { reply = answered a; state = afterAnswer a st (activated s at st bank thread row) }
 
--- "a done takes 1 from in flight"
+-- "a done takes 1 from in flight": of its bank, and so "Done for a bank lowers the total" (document 02, b)
 abbrev pub oneLess : Setting → ℕ → ℕ → List ℕ → List ℕ
 oneLess s bank thread ts = set ts (threadCell s bank thread 2) (getD ts (threadCell s bank thread 2) 0 - 1)
 

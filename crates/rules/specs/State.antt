@@ -32,7 +32,7 @@ threadsUsed s = s .banks * s .threads * 3
 abbrev pub counterCell : ℕ → ℕ → ℕ → ℕ
 counterCell bank f place = bank * 2048 + f * 1024 + place
 
--- A thread's three cells in a bank: k 0 and 1 are the index counters turned with filter 0 and 1, k 2 is in flight.
+-- A thread's three cells in a bank: k 0 and 1 are the index counters turned with filter 0 and 1, k 2 is in flight in that bank.
 abbrev pub threadCell : Setting → ℕ → ℕ → ℕ → ℕ
 threadCell s bank thread k = (bank * s .threads + thread) * 3 + k
 

@@ -5,7 +5,7 @@ use rules::Head;
 use rules::Setting;
 ghost use mathlib.Core.Path.{_≡_};
 ghost use mathlib.Core.Bool.{_&&_, cond};
-ghost use Prim.Native.Nat.{_+_, _*_, _≤_, _<_, _^_};
+ghost use Prim.Native.Nat.{_≤_, _<_, _^_};
 ghost use lib.Dec.{ltb};
 ghost use lib.ListN.{length, getD};
 ghost use Rattle.rules.specs.Setting.{historyLength};
@@ -74,8 +74,8 @@ pub fn look(
     let f = (e % 2) as usize;
     let cell = thread_counters::cell(s, bank, thread);
     let c = threads[cell + f];
-    let flying = thread_total::total(threads, s, thread);
     let quota = quota::quota(s, c);
+    let flying = thread_total::total(threads, s, thread);
     let rank = h.rank;
     let delay = delay(s, h, ticks, rows, active, other, bank, row);
     let end = (e + 1) * length;

@@ -234,7 +234,7 @@ fn call(throttle: &mut Throttle, numbers: &mut Numbers, tick: u64) -> (Seen, usi
 }
 
 /// Makes a random list of calls after a set-up. Is each thread's total its
-/// openings less its dones after every call?
+/// openings less its dones after every call, and at most Q?
 fn balanced(seed: u64, fault: Fault, seen: &mut BTreeSet<Seen>) -> bool {
     let numbers = &mut Numbers::new(seed);
     let (q, banks, threads) = (
@@ -255,7 +255,10 @@ fn balanced(seed: u64, fault: Fault, seen: &mut BTreeSet<Seen>) -> bool {
             _ => 0,
         };
         seen.insert(one);
-        (0..threads as usize).all(|thread| total(&throttle, thread) as i64 == balance[thread])
+        (0..threads as usize).all(|thread| {
+            let total = total(&throttle, thread);
+            total as i64 == balance[thread] && total <= q
+        })
     })
 }
 
@@ -273,6 +276,8 @@ fn in_a_list_the_total_is_openings_less_dones() {
         Fault::DoneTakesNothing,
         Fault::DoneRefusedByTotal,
         Fault::DropsInFlightAtTurn,
+        Fault::InFlightOfBank,
+        Fault::QuotaStrict,
     ] {
         let found = (1..300).any(|seed| !balanced(seed, fault, &mut seen));
         assert!(found, "{fault:?}");

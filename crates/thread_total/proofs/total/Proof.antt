@@ -1,6 +1,6 @@
 -- `total`: bank by bank the sum of the thread's cells, each a bank's cells after the one before.
 use mathlib.Core.Path.{_≡_, refl, ap, _∙_}
-use Prim.Native.Nat.{ℕ, _+_, _-_, _*_, _≤_, _<_}
+use Prim.Native.Nat.{_+_, _-_, _*_, _≤_}
 use native.Mathlib.Omega.{arith}
 use Rattle.thread_total.proofs.Laws.{strided, within, next-cell, next-sum, strided-total}
 use borrow.Author.Needs.{needs}

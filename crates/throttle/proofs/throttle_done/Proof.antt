@@ -7,7 +7,7 @@ use Rattle.rules.specs.Answers.{none, refusalNumber}
 use Rattle.rules.specs.Setting.{settingOf}
 use Rattle.rules.specs.State.{State, headOf}
 use Rattle.rules.specs.Clock.{turned}
-use Rattle.rules.specs.Policy.{limits01, narrow}
+use Rattle.rules.specs.Policy.{limits01}
 use Rattle.rules.specs.Calls.{doneRefusal, reported, step}
 use Rattle.rules.proofs.Accept.{taken, done-taken, number-none, not-zero}
 use Rattle.calls.proofs.Requests.{narrow-widest, bounds}

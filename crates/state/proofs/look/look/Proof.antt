@@ -24,11 +24,11 @@ mul-c c = search needs
 shared-slice-read-c : tie.Need-shared-slice-read-c
 shared-slice-read-c c = search needs
 
-total-requires : tie.Need-total-requires
-total-requires c κs = search needs
-
 quota-requires : tie.Need-quota-requires
 quota-requires c κs = search needs
+
+total-requires : tie.Need-total-requires
+total-requires c κs = search needs
 
 delay-requires : tie.Need-delay-requires
 delay-requires c κs =
@@ -58,7 +58,7 @@ returns c =
     let at-cell = c .before .before .before .before .before in
     let a = start .args in
     view-parts (a .s) (a .active) (a .other) (a .h) (a .ticks .now) (a .rows .now) (a .threads .now) (a .bank) (a .thread) (a .row) (a .e % 2) (at-cell .cell .result) _
-    (ap (λ x. x % 2) (start .pre .1)) (at-cell .cell .ensures .0) (c .before .before .before .total .ensures) (c .before .before .quota .ensures .0) (start .pre .2) refl refl refl (c .delay .ensures) (ap (λ x. (x + 1) * (a .s .w / 2)) (start .pre .1))
+    (ap (λ x. x % 2) (start .pre .1)) (at-cell .cell .ensures .0) (c .before .before .total .ensures) (c .before .before .before .quota .ensures .0) (start .pre .2) refl refl refl (c .delay .ensures) (ap (λ x. (x + 1) * (a .s .w / 2)) (start .pre .1))
 
 pub look-spec : {M : Type 1} → statement M
 look-spec =
@@ -68,8 +68,8 @@ look-spec =
     add-c
     mul-c
     shared-slice-read-c
-    total-requires
     quota-requires
+    total-requires
     delay-requires
     add-end
     mul-end
