@@ -70,12 +70,12 @@ pub fn look(
     requires { ⌜ Ready s h (now ticks) (now rows) (now threads) bank thread × (e ≡ epoch s (h .last)) × (stored ≡ getD (h .bank) bank 0) ⌝ }
     ensures { λ r. ⌜ r ≡ viewOf narrow s active other h (now (ticks .entry)) (now (rows .entry)) (now (threads .entry)) bank thread row ⌝ }
 {
+    let flying = thread_total::total(threads, s, thread);
     let length = s.w / 2;
     let f = (e % 2) as usize;
     let cell = thread_counters::cell(s, bank, thread);
     let c = threads[cell + f];
     let quota = quota::quota(s, c);
-    let flying = thread_total::total(threads, s, thread);
     let rank = h.rank;
     let delay = delay(s, h, ticks, rows, active, other, bank, row);
     let end = (e + 1) * length;

@@ -12,6 +12,9 @@ use Rattle.state.proofs.look.look.Tie as tie
 abbrev from : tie.After-delay → tie.Start
 from c = c .before .before .before .before .before .before .before .before .before .before
 
+total-requires : tie.Need-total-requires
+total-requires c κs = search needs
+
 cell-requires : tie.Need-cell-requires
 cell-requires c κs = search needs
 
@@ -26,9 +29,6 @@ shared-slice-read-c c = search needs
 
 quota-requires : tie.Need-quota-requires
 quota-requires c κs = search needs
-
-total-requires : tie.Need-total-requires
-total-requires c κs = search needs
 
 delay-requires : tie.Need-delay-requires
 delay-requires c κs =
@@ -55,21 +55,21 @@ array-read-t22 c = search needs
 returns : tie.Need-returns
 returns c =
     let start = from c in
-    let at-cell = c .before .before .before .before .before in
+    let at-cell = c .before .before .before .before in
     let a = start .args in
     view-parts (a .s) (a .active) (a .other) (a .h) (a .ticks .now) (a .rows .now) (a .threads .now) (a .bank) (a .thread) (a .row) (a .e % 2) (at-cell .cell .result) _
-    (ap (λ x. x % 2) (start .pre .1)) (at-cell .cell .ensures .0) (c .before .before .total .ensures) (c .before .before .before .quota .ensures .0) (start .pre .2) refl refl refl (c .delay .ensures) (ap (λ x. (x + 1) * (a .s .w / 2)) (start .pre .1))
+    (ap (λ x. x % 2) (start .pre .1)) (at-cell .cell .ensures .0) (at-cell .before .before .total .ensures) (c .before .before .quota .ensures .0) (start .pre .2) refl refl refl (c .delay .ensures) (ap (λ x. (x + 1) * (a .s .w / 2)) (start .pre .1))
 
 pub look-spec : {M : Type 1} → statement M
 look-spec =
     tie.close
     (tie.spec
+    total-requires
     cell-requires
     add-c
     mul-c
     shared-slice-read-c
     quota-requires
-    total-requires
     delay-requires
     add-end
     mul-end
