@@ -106,12 +106,9 @@ def faithful(corpus):
     """Logs made by the rules, and by the rules with the named bank's own count, on several banks."""
     for banks in (2, 3, 16):
         for q in (1, 2, 4, 6):
-            setting = (400, 1, 4, 2, 20, 30, q, banks, 2)
-            name = f"in-flight-q{q}-b{banks}"
-            corpus.add(name, corpus.faithful("random", q, 300, 0, setting))
-            corpus.add(f"{name}-old", corpus.faithful("random", q, 300, 0, setting, 0, ("bank",)))
+            corpus.with_old_rule(f"in-flight-q{q}-b{banks}", q, (400, 1, 4, 2, 20, 30, q, banks, 2), 0, "bank")
     for seed in range(1, 13):
-        corpus.add(f"in-flight-old-{seed}", corpus.faithful("random", seed, 20, 0, TWO_BY_TWO, 0, ("bank",)))
+        corpus.add(f"in-flight-seed-{seed}-bank", corpus.faithful("random", seed, 20, 0, TWO_BY_TWO, 0, ("bank",)))
 
 
 def add_to(corpus):

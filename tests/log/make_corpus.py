@@ -54,6 +54,11 @@ class Corpus:
         words = [self.maker, style, *(str(x) for x in (seed, count, first, keys, *setting)), *more]
         return subprocess.run(words, check=True, stdout=subprocess.PIPE).stdout
 
+    def with_old_rule(self, name, seed, setting, keys, rule):
+        """A log made by the rules and one with an old rule, whose name ends with the rule."""
+        for ending, more in (("", ()), (f"-{rule}", (rule,))):
+            self.add(name + ending, self.faithful("random", seed, 300, 0, setting, keys, more))
+
 
 def samples(corpus):
     corpus.add("sample-four", log(four()))

@@ -43,10 +43,7 @@ def faithful(corpus):
     """Logs made by the rules, and by the rules with the quota rounded down, where D is small and half-way values are many."""
     for d in (4, 6, 8):
         for q in range(1, 7):
-            setting = (40, 1, 4, 1, 20, d + 1, q, 1, 2)
-            name = f"rounding-q{q}-d{d}"
-            corpus.add(name, corpus.faithful("random", q, 300, 0, setting, 1))
-            corpus.add(f"{name}-down", corpus.faithful("random", q, 300, 0, setting, 1, ("down",)))
+            corpus.with_old_rule(f"rounding-q{q}-d{d}", q, (40, 1, 4, 1, 20, d + 1, q, 1, 2), 1, "down")
     for seed in range(1, 13):
         corpus.add(f"rounding-down-{seed}", corpus.faithful("random", seed, 20, 0, S, 0, ("down",)))
 
