@@ -6,6 +6,7 @@ ghost use Rattle.rules.specs.Cells.{sumBelow};
 ghost use Rattle.rules.specs.State.{threadsUsed};
 ghost use Rattle.rules.specs.Quota.{inFlightHere};
 
+// A cell's number in 64 bits.
 fn wide(x: u32) -> u64
     ensures { λ r. ⌜ (r ≡ x) × (r < 4294967296) ⌝ }
 {
