@@ -1,7 +1,7 @@
 -- A request that is not refused: what its parts give, put together, for the rules in force under any limits within the widest.
-use Prim.Native.Nat.{ℕ, _^_, _≤_, _<_}
+use Prim.Native.Nat.{ℕ, _-_, _^_, _≤_, _<_}
 use mathlib.Core.Path.{_≡_, refl, sym, ap, _∙_}
-use mathlib.Core.Logic.{_≢_}
+use mathlib.Core.Bool.{Bool, true, false, not, cond, true≢false}
 use mathlib.Core.List.{List}
 use native.Mathlib.Omega.{arith}
 use lib.Dec.{leb}
@@ -9,18 +9,17 @@ use lib.ListN.{getD}
 use Rattle.rules.specs.declared.Setting.{Setting}
 use Rattle.rules.specs.declared.Limits.{Limits}
 use Rattle.rules.specs.declared.Head.{Head}
-use Rattle.rules.specs.declared.Cause.the-variants.{Bank, Rank, Row}
+use Rattle.rules.specs.declared.Decision.{Decision}
+use Rattle.rules.specs.declared.Decision.the-variants.{Open, Hold, OverQuota}
 use Rattle.rules.specs.declared.Answer.{Answer}
-use Rattle.rules.specs.declared.Answer.the-variants.{Opened, Wait, Quota}
-use Rattle.rules.specs.Answers.{answerNumber}
 use Rattle.rules.specs.State.{State, countersUsed, threadsUsed, threadCell, state}
 use Rattle.rules.specs.Clock.{epoch, turnedCounters, turnedThreads, movedHead, turned}
 use Rattle.rules.specs.Hash.{places}
 use Rattle.rules.specs.Filter.{Within, blacklisted}
 use Rattle.rules.specs.Policy.{Policy, limits01, inForce}
-use Rattle.rules.specs.Decision.{activeEstimate, decide, activated}
+use Rattle.rules.specs.Decision.{activeEstimate, decide, activated, openingsLeft, opens, answerOf}
 use Rattle.rules.specs.Tested.{Accepted, Taken, Sound}
-use Rattle.rules.specs.Calls.{answered, afterAnswer, outcome, requested}
+use Rattle.rules.specs.Calls.{answered, afterDecision, Outcome, outcome, requested}
 use Rattle.rules.proofs.Accept.{epoch-long, scale-pos}
 use Rattle.rules.proofs.Places.{places-within}
 use Rattle.rules.proofs.Memory.{taken-memory, turned-long, activated-long, activated-memory}
@@ -73,6 +72,12 @@ bounds w ok =
       scale = scale-pos ok;
       history = omega (arith, ok .short, w .history);
     }
+
+-- ---- a test that was made by its opposite
+
+pub not-not : (b q : Bool) → not b ≡ q → b ≡ not q
+not-not true q e = ap not e
+not-not false q e = ap not e
 
 -- ---- the clock
 
@@ -128,11 +133,11 @@ module _ (m : Limits) (w : Within-widest m) (s : Setting) (seeds : List ℕ) (st
       rw e (omega (arith, taken-memory k .bank bank (k .bank-in), k .early), omega (arith, taken-memory k .rank 3 (omega arith), k .early))
 
   -- the decision is the one of the rules
-  pub decision : (v : View) (a : Answer) → v ≡ view → a ≡ decideFrom s tick v
-      → a ≡ decide p s at moved bank thread row
+  pub decision : (v : View) (d : Decision) → v ≡ view → d ≡ decideFrom s tick v
+      → d ≡ decide p s at moved bank thread row
   unfolding turned movedHead
-  decision v a ev ea =
-      ea ∙ ap (decideFrom s tick) ev
+  decision v d ev ed =
+      ed ∙ ap (decideFrom s tick) ev
       ∙ sym (decide-view p s at moved bank thread row (taken-memory k) (k .bank-in) (omega (arith, epoch-long (k .setting))) (k .setting .delay) within)
 
   -- the row was blacklisted when opened
@@ -140,44 +145,48 @@ module _ (m : Limits) (w : Within-widest m) (s : Setting) (seeds : List ℕ) (st
   unfolding viewOf
   black-by-view v e = ap (λ x. leb (s .n) (x .active)) e
 
-  answer-opened : (a : Answer) → answerNumber a ≡ 0 → a ≡ Opened
-  answer-opened Opened e = refl
-  answer-opened (Wait Bank u) e = absurd (omega arith)
-  answer-opened (Wait Rank u) e = absurd (omega arith)
-  answer-opened (Wait Row u) e = absurd (omega arith)
-  answer-opened Quota e = absurd (omega arith)
+  decision-opens : (d : Decision) → opens d ≡ true → d ≡ Open
+  decision-opens Open e = refl
+  decision-opens (Hold c u) e = absurd (true≢false (sym e))
+  decision-opens OverQuota e = absurd (true≢false (sym e))
 
   -- an opened request has few in flight
-  pub few-flying : (a : Answer) → a ≡ decide p s at moved bank thread row → answerNumber a ≡ 0 → getD (moved .threads) (threadCell s bank thread 2) 0 < 255
-  few-flying a ea e =
+  pub few-flying : (d : Decision) → d ≡ decide p s at moved bank thread row → opens d ≡ true → getD (moved .threads) (threadCell s bank thread 2) 0 < 255
+  few-flying d ed e =
       fits.few-flying p (in-force-regular m) s seeds moved bank thread (k .setting) (k .bank-in) (k .thread-in)
-      (opened-rules p s at moved bank thread row (sym ea ∙ answer-opened a e) .0)
+      (opened-rules p s at moved bank thread row (sym ed ∙ decision-opens d e) .0)
 
   -- ---- the outcome
 
-  waits : (a : Answer) (z : State) → answerNumber a ≢ 0 → afterAnswer a moved z ≡ moved
-  waits Opened z h = absurd (h refl)
-  waits (Wait c u) z h = refl
-  waits Quota z h = refl
+  -- the state after an activation
+  abbrev opened : State
+  opened = activated s at moved bank thread row
 
-  opens : (a : Answer) (z : State) → answerNumber a ≡ 0 → afterAnswer a moved z ≡ z
-  opens a z e = ap (λ x. afterAnswer x moved z) (answer-opened a e)
+  -- what the rules reply and leave, by the decision
+  abbrev by-decision : Decision → Outcome
+  by-decision d = outcome (answered (answerOf d (openingsLeft s at opened bank))) (afterDecision d moved opened)
 
-  -- a request that waits leaves the turned state
-  pub request-waits : (a : Answer) (z : State) → z ≡ moved → a ≡ decide p s at moved bank thread row → answerNumber a ≢ 0
+  -- a request that waits leaves the turned state, and has no openings left to tell
+  pub request-waits : (d : Decision) (a : Answer) (z : State) → z ≡ moved → d ≡ decide p s at moved bank thread row → opens d ≡ false → a ≡ answerOf d 0
       → outcome (answered a) z ≡ requested p s at moved bank thread row
   unfolding requested
-  request-waits a z ez ea h =
-      let state-is : z ≡ afterAnswer a moved (activated s at moved bank thread row) = ez ∙ sym (waits a (activated s at moved bank thread row) h) in
-      λ i. outcome (answered (ea i)) ((state-is ∙ ap (λ x. afterAnswer x moved (activated s at moved bank thread row)) ea) i)
+  request-waits d a z ez ed h ea = (λ i. outcome (answered (ea i)) (ez i)) ∙ waits d h ∙ ap by-decision ed
+    where
+      waits : (d : Decision) → opens d ≡ false → outcome (answered (answerOf d 0)) moved ≡ by-decision d
+      waits Open e = absurd (true≢false e)
+      waits (Hold c u) e = refl
+      waits OverQuota e = refl
 
-  -- a request that is opened leaves the state after the activation
-  pub request-opens : (a : Answer) (z : State) → z ≡ activated s at moved bank thread row → a ≡ decide p s at moved bank thread row
-      → answerNumber a ≡ 0 → outcome (answered a) z ≡ requested p s at moved bank thread row
+  -- a request that is opened leaves the state after the activation, and tells the openings left from the estimate then
+  pub request-opens : (d : Decision) (a : Answer) (z : State) (est : ℕ) → z ≡ opened → d ≡ decide p s at moved bank thread row → opens d ≡ true
+      → est ≡ activeEstimate s at z bank → a ≡ answerOf d (s .n - est) → outcome (answered a) z ≡ requested p s at moved bank thread row
   unfolding requested
-  request-opens a z ez ea h =
-      let state-is : z ≡ afterAnswer a moved (activated s at moved bank thread row) = ez ∙ sym (opens a (activated s at moved bank thread row) h) in
-      λ i. outcome (answered (ea i)) ((state-is ∙ ap (λ x. afterAnswer x moved (activated s at moved bank thread row)) ea) i)
+  request-opens d a z est ez ed h ee ea =
+      let left : s .n - est ≡ openingsLeft s at opened bank = ap (λ x. s .n - x) (ee ∙ ap (λ x. activeEstimate s at x bank) ez) in
+      (λ i. outcome (answered ((ea ∙ ap (answerOf d) left) i)) (ez i)) ∙ sym (state-is d h) ∙ ap by-decision ed
+    where
+      state-is : (d : Decision) → opens d ≡ true → by-decision d ≡ outcome (answered (answerOf d (openingsLeft s at opened bank))) opened
+      state-is d e = ap (λ b. outcome (answered (answerOf d (openingsLeft s at opened bank))) (cond b opened moved)) e
 
   -- ---- the next state passes the tests
 

@@ -1,5 +1,8 @@
 // Request, done and index on a state with 16-bit filters that passed the tests of refusals 1 to 9. Each leaves a state that passes the tests
 // of 6 and 7, so that a caller that owns its memory tests bank, thread and tick only.
+use answers::answer;
+use answers::openings_left;
+use answers::opens;
 use decision::decide;
 use narrow::activate;
 use narrow::look;
@@ -7,7 +10,6 @@ use narrow::turn;
 use rules::Answer;
 use rules::Head;
 use rules::Setting;
-use words::answer_number;
 ghost use mathlib.Core.Path.{_≡_};
 ghost use Prim.Native.Nat.{_≤_, _<_};
 ghost use lib.ListN.{length, getD};
@@ -64,14 +66,14 @@ pub fn request(
         row,
         x.epoch,
     );
-    let answer = decide(s, tick, v);
-    if answer_number(answer) != 0 {
+    let d = decide(s, tick, v);
+    if !opens(d) {
         return Decided {
-            answer,
+            answer: answer(d, 0),
             head: moved,
         };
     }
-    let head = activate(
+    let y = activate(
         s,
         moved,
         counters,
@@ -83,9 +85,14 @@ pub fn request(
         bank,
         thread,
         row,
+        x.epoch,
         s.n <= v.active,
     );
-    Decided { answer, head }
+    let head = y.head;
+    Decided {
+        answer: answer(d, openings_left(s.n, y.estimate)),
+        head,
+    }
 }
 
 // A request done: one less in flight. The history plays no part.

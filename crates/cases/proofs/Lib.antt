@@ -1,4 +1,5 @@
 pub mod Numbers
 pub mod Rounding
 pub mod Totals
+pub mod Left
 pub mod Tables

@@ -1,4 +1,5 @@
 pub mod Cases
 pub mod Rounding
 pub mod Totals
+pub mod Left
 pub mod Tables

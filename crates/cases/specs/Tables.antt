@@ -5,6 +5,7 @@ use Rattle.rules.specs.Policy.{document01, narrow}
 use Rattle.cases.specs.Cases.{Numbers, Cases, run, opened, waitRow, toTick8, flying}
 use Rattle.cases.specs.Rounding.{Rounded}
 use Rattle.cases.specs.Totals.{Totals}
+use Rattle.cases.specs.Left.{Left}
 
 pub record Tables : Type 0 where
   pub numbers : Numbers
@@ -17,3 +18,5 @@ pub record Tables : Type 0 where
   pub rounded : Rounded
   -- the cases of document 02, b
   pub totals : Totals
+  -- the cases of document 02, e
+  pub left : Left

@@ -6,7 +6,7 @@ use lib.Dec.{ltb, leb, eqb}
 use lib.ListN.{getD}
 use Rattle.rules.specs.declared.Setting.{Setting}
 use Rattle.rules.specs.declared.Head.{Head}
-use Rattle.rules.specs.declared.Answer.{Answer}
+use Rattle.rules.specs.declared.Decision.{Decision}
 use Rattle.rules.specs.Setting.{epochLength, historyLength}
 use Rattle.rules.specs.State.{State, rowWord}
 use Rattle.rules.specs.Clock.{epoch, activeFilter}
@@ -27,7 +27,7 @@ unfoldable pub waitFrom : Setting → ℕ → View → ℕ
 waitFrom s t v = closedTick (s .n) (v .end) (gapsEnd s t v) (v .delay) (v .active) (v .other)
 
 -- the decision at tick t
-unfoldable pub decideFrom : Setting → ℕ → View → Answer
+unfoldable pub decideFrom : Setting → ℕ → View → Decision
 decideFrom s t v =
     firstFailing (ltb (v .flying) (v .quota)) (passed (s .trc) (v .bank) t) (passed (s .tfaw) (v .rank) t)
     (ltb (v .active) (s .n) || leb (v .delay) t) (waitFrom s t v)

@@ -1,6 +1,6 @@
 // The decision on a request, by value: it sees numbers only.
-use rules::Answer;
 use rules::Cause;
+use rules::Decision;
 use rules::Setting;
 ghost use mathlib.Core.Path.{_≡_};
 ghost use Prim.Native.Nat.{_+_, _≤_, _<_, _^_, max, min};
@@ -64,35 +64,35 @@ fn wait_tick(s: Setting, v: View, gaps: u64) -> u64
 }
 
 // The first rule that fails names the cause; if all pass, the row is opened.
-pub fn decide(s: Setting, t: u64, v: View) -> Answer
+pub fn decide(s: Setting, t: u64, v: View) -> Decision
     requires { ⌜ (s .trc ≤ 65535) × (s .tfaw ≤ 65535) × (v .bank ≤ 2 ^ 62) × (v .rank ≤ 2 ^ 62) ⌝ }
     ensures { λ r. ⌜ r ≡ decideFrom s t v ⌝ }
 {
     if v.quota <= v.flying {
-        return Answer::Quota;
+        return Decision::OverQuota;
     }
     let bank = gap_end(s.trc, v.bank);
     let rank = gap_end(s.tfaw, v.rank);
     let until = wait_tick(s, v, later(t, later(bank, rank)));
     if t < bank {
-        return Answer::Wait {
+        return Decision::Hold {
             cause: Cause::Bank,
             until,
         };
     }
     if t < rank {
-        return Answer::Wait {
+        return Decision::Hold {
             cause: Cause::Rank,
             until,
         };
     }
     if v.active < s.n {
-        return Answer::Opened;
+        return Decision::Open;
     }
     if v.delay <= t {
-        return Answer::Opened;
+        return Decision::Open;
     }
-    Answer::Wait {
+    Decision::Hold {
         cause: Cause::Row,
         until,
     }

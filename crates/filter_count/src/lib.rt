@@ -1,10 +1,10 @@
-// What an activation adds to the two counting Bloom filters of its bank, with 16-bit counters.
+// What an activation adds to the two counting Bloom filters of its bank, with 16-bit counters, and the row's estimate after it.
 ghost use mathlib.Core.Path.{_≡_};
 ghost use mathlib.Core.List.{map};
 ghost use Prim.Native.Nat.{_+_, _*_, _<_, _≤_};
 ghost use lib.ListN.{length};
 ghost use Rattle.rules.specs.State.{counterCell};
-ghost use Rattle.rules.specs.Filter.{Within, two, raised, counted};
+ghost use Rattle.rules.specs.Filter.{Within, two, estimate, raised, counted};
 ghost use Rattle.filter_count.specs.Changes.{raisedAt};
 
 // A counter with 1 more, if it is below n.
@@ -35,11 +35,19 @@ fn count_in(counters: &mut [u16], bank: usize, f: usize, at: [usize; 4], n: u16)
     counters[a0] = v0;
 }
 
-// Counts an activation of the row with these places in filter 0 and filter 1 of its bank.
-pub fn count(counters: &mut [u16], bank: usize, at: [usize; 4], other: [usize; 4], n: u16)
-    requires { ⌜ (bank < 16) × (bank * 2048 + 2048 ≤ length (now counters)) × Within at × Within other ⌝ }
-    ensures { λ _. ⌜ now (counters .exit) ≡ counted n bank (two at other) (now (counters .entry)) ⌝ }
+// Counts an activation of the row with these places in filter 0 and filter 1 of its bank, and reports the row's estimate in filter f after it.
+pub fn count(
+    counters: &mut [u16],
+    bank: usize,
+    at: [usize; 4],
+    other: [usize; 4],
+    n: u16,
+    f: usize,
+) -> u16
+    requires { ⌜ (bank < 16) × (bank * 2048 + 2048 ≤ length (now counters)) × (f < 2) × Within at × Within other ⌝ }
+    ensures { λ r. ⌜ (now (counters .exit) ≡ counted n bank (two at other) (now (counters .entry))) × (r ≡ estimate (now (counters .exit)) bank f (two at other f)) ⌝ }
 {
     count_in(counters, bank, 0, at, n);
     count_in(counters, bank, 1, other, n);
+    filter::bank_estimate(&*counters, bank, at, other, f)
 }

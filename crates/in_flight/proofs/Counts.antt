@@ -9,8 +9,8 @@ use lib.Dec.{ltb, eqb, lt→ltb}
 use lib.ListN.{length, set}
 use borrow.Author.Tests.{eq-eqb, ne-eqb}
 use Rattle.rules.specs.declared.Setting.{Setting}
-use Rattle.rules.specs.declared.Answer.{Answer}
-use Rattle.rules.specs.declared.Answer.the-variants.{Opened, Wait, Quota}
+use Rattle.rules.specs.declared.Decision.{Decision}
+use Rattle.rules.specs.declared.Decision.the-variants.{Open, Hold, OverQuota}
 use Rattle.rules.specs.Cells.{more}
 use Rattle.rules.specs.Answers.{Refusal, none}
 use Rattle.rules.specs.State.{State, threadsUsed, threadCell, fresh}
@@ -19,9 +19,9 @@ use Rattle.rules.specs.Hash.{places}
 use Rattle.rules.specs.Filter.{blacklisted}
 use Rattle.rules.specs.Quota.{inFlightHere, inFlightTotal}
 use Rattle.rules.specs.Policy.{Policy}
-use Rattle.rules.specs.Decision.{activeEstimate, decide, activated}
+use Rattle.rules.specs.Decision.{activeEstimate, decide, activated, openingsLeft, answerOf}
 use Rattle.rules.specs.Tested.{Taken}
-use Rattle.rules.specs.Calls.{Call, request, done, index, refused, answered, Outcome, outcome, afterAnswer, requested, reported, indexShown, refusalOf, performed, step, replies, after, activationOf, activations}
+use Rattle.rules.specs.Calls.{Call, request, done, index, refused, answered, Outcome, outcome, afterDecision, requested, reported, indexShown, refusalOf, performed, step, replies, after, activationOf, activations}
 use Rattle.rules.proofs.Accept.{not-zero, done-taken, call-taken}
 use Rattle.rules.proofs.Clearing.{clear-zero}
 use Rattle.rules.proofs.Counting.{count-append}
@@ -97,11 +97,11 @@ module _ (p : Policy) (s : Setting) (seeds : List ℕ) (bank thread : ℕ) (h : 
       kept : total (turned s st t) ≡ total st
       kept = turned-total s st t bank thread
 
-      go : (a : Answer) → Moved st (request t b th r) (outcome (answered a) (afterAnswer a x (activated s at x b th r)))
-      go Opened =
+      go : (d : Decision) → Moved st (request t b th r) (outcome (answered (answerOf d (openingsLeft s at (activated s at x b th r) b))) (afterDecision d x (activated s at x b th r)))
+      go Open =
           omega (arith, activated-moved s at x b th r bank thread (k .bank-in) (k .thread-in) (turned-long s st t (k .long) .threads) h, kept)
-      go (Wait c u) = omega (arith, kept)
-      go Quota = omega (arith, kept)
+      go (Hold c u) = omega (arith, kept)
+      go OverQuota = omega (arith, kept)
 
   done-moved : (st : State) (t b th : ℕ) → Taken (p .limits) s seeds st t b th → 0 < inFlightHere s (st .threads) b th
       → Moved st (done t b th) (performed p s (λ f. seeds) st (done t b th))

@@ -8,8 +8,8 @@ use lib.Dec.{eqb, ltb→lt}
 use borrow.Author.Tests.{eq-eqb, ne-eqb}
 use Rattle.rules.specs.declared.Setting.{Setting}
 use Rattle.rules.specs.declared.Limits.{Limits}
-use Rattle.rules.specs.declared.Answer.{Answer}
-use Rattle.rules.specs.declared.Answer.the-variants.{Opened, Wait, Quota}
+use Rattle.rules.specs.declared.Decision.{Decision}
+use Rattle.rules.specs.declared.Decision.the-variants.{Open, Hold, OverQuota}
 use Rattle.rules.specs.Cells.{more}
 use Rattle.rules.specs.Answers.{none}
 use Rattle.rules.specs.Setting.{indexScale}
@@ -20,7 +20,7 @@ use Rattle.rules.specs.Quota.{quotaEven, inFlightTotal, indexCounter}
 use Rattle.rules.specs.Policy.{Policy, inForce}
 use Rattle.rules.specs.Decision.{decide, activated}
 use Rattle.rules.specs.Tested.{Taken}
-use Rattle.rules.specs.Calls.{Call, request, done, index, afterAnswer, requested, reported, indexShown, refusalOf, performed, step, after}
+use Rattle.rules.specs.Calls.{Call, request, done, index, afterDecision, requested, reported, indexShown, refusalOf, performed, step, after}
 use Rattle.rules.proofs.Accept.{scale-pos, call-taken}
 use Rattle.rules.proofs.Memory.{turned-long}
 use Rattle.rules.proofs.Regular.{quota-most}
@@ -37,7 +37,7 @@ module _ (m : Limits) (s : Setting) (seeds : List ℕ) (bank thread : ℕ) (h : 
   total st = inFlightTotal s (st .threads) bank thread
 
   -- a request that is opened has its thread's total below Q
-  below-q : (at : ℕ → List ℕ) (st : State) (b r : ℕ) → 1 ≤ indexScale s → decide p s at st b thread r ≡ Opened → total st < s .q
+  below-q : (at : ℕ → List ℕ) (st : State) (b r : ℕ) → 1 ≤ indexScale s → decide p s at st b thread r ≡ Open → total st < s .q
   unfolding inFlightTotal
   below-q at st b r pos e =
       let c = indexCounter s (st .threads) b thread (activeFilter s (st .head .last)) in
@@ -57,23 +57,23 @@ module _ (m : Limits) (s : Setting) (seeds : List ℕ) (bank thread : ℕ) (h : 
       kept = turned-total s st t bank thread
 
       -- the thread that opens, or another
-      opens : Dec (th ≡ thread) → decide p s at x b th r ≡ Opened → total (activated s at x b th r) ≤ s .q
+      opens : Dec (th ≡ thread) → decide p s at x b th r ≡ Open → total (activated s at x b th r) ≤ s .q
       opens (yes q) e =
           let one : more (eqb th thread) 0 ≡ 1 = ap (λ z. more z 0) (eq-eqb th thread q) in
           omega (
             arith,
             activated-moved s at x b th r bank thread (k .bank-in) (k .thread-in) (turned-long s st t (k .long) .threads) h,
             one,
-            below-q at x b r (omega (arith, scale-pos (k .setting))) (subst (λ z. decide p s at x b z r ≡ Opened) q e),
+            below-q at x b r (omega (arith, scale-pos (k .setting))) (subst (λ z. decide p s at x b z r ≡ Open) q e),
           )
       opens (no n) e =
           let none-more : more (eqb th thread) 0 ≡ 0 = ap (λ z. more z 0) (ne-eqb th thread n) in
           omega (arith, activated-moved s at x b th r bank thread (k .bank-in) (k .thread-in) (turned-long s st t (k .long) .threads) h, none-more, kept)
 
-      go : (a : Answer) → decide p s at x b th r ≡ a → total (afterAnswer a x (activated s at x b th r)) ≤ s .q
-      go Opened e = opens (ℕ-discrete th thread) e
-      go (Wait c u) e = omega (arith, kept)
-      go Quota e = omega (arith, kept)
+      go : (a : Decision) → decide p s at x b th r ≡ a → total (afterDecision a x (activated s at x b th r)) ≤ s .q
+      go Open e = opens (ℕ-discrete th thread) e
+      go (Hold c u) e = omega (arith, kept)
+      go OverQuota e = omega (arith, kept)
 
   performed-most : (st : State) (c : Call) → refusalOf m s seeds st c ≡ none → total st ≤ s .q → total (performed p s (λ f. seeds) st c .state) ≤ s .q
   unfolding reported indexShown

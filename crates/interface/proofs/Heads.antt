@@ -5,14 +5,14 @@ use Prim.Native.Nat.{ℕ}
 use lib.ListN.{length, length-set}
 use Rattle.rules.specs.declared.Setting.{Setting}
 use Rattle.rules.specs.declared.Head.{Head}
-use Rattle.rules.specs.declared.Answer.{Answer}
-use Rattle.rules.specs.declared.Answer.the-variants.{Opened, Wait, Quota}
+use Rattle.rules.specs.declared.Decision.{Decision}
+use Rattle.rules.specs.declared.Decision.the-variants.{Open, Hold, OverQuota}
 use Rattle.rules.specs.State.{State, headOf, headWords, freshHead, fresh}
 use Rattle.rules.specs.Clock.{movedHead, turned}
 use Rattle.rules.specs.Hash.{places}
 use Rattle.rules.specs.Policy.{Policy}
 use Rattle.rules.specs.Decision.{decide, activatedHead, activated}
-use Rattle.rules.specs.Calls.{Call, request, done, index, afterAnswer, requested, reported, indexShown, performed}
+use Rattle.rules.specs.Calls.{Call, request, done, index, afterDecision, requested, reported, indexShown, performed}
 use Rattle.rules.proofs.Cells.{cells-all}
 
 -- sixteen banks and the rank's four
@@ -46,9 +46,9 @@ pub performed-shape : (p : Policy) (s : Setting) (own : ℕ → List ℕ) (st : 
 unfolding requested reported indexShown
 performed-shape p s own st (request t b th r) h = go (decide p s (λ f. places (own f) r) (turned s st t) b th r)
   where
-    go : (a : Answer) → Shape (afterAnswer a (turned s st t) (activated s (λ f. places (own f) r) (turned s st t) b th r) .head)
-    go Opened = activated-shape s (λ f. places (own f) r) (turned s st t) b th r (turned-shape s st t h)
-    go (Wait c u) = turned-shape s st t h
-    go Quota = turned-shape s st t h
+    go : (a : Decision) → Shape (afterDecision a (turned s st t) (activated s (λ f. places (own f) r) (turned s st t) b th r) .head)
+    go Open = activated-shape s (λ f. places (own f) r) (turned s st t) b th r (turned-shape s st t h)
+    go (Hold c u) = turned-shape s st t h
+    go OverQuota = turned-shape s st t h
 performed-shape p s own st (done t b th) h = turned-shape s st t h
 performed-shape p s own st (index t b th) h = turned-shape s st t h

@@ -13,7 +13,7 @@ use Rattle.rules.specs.Setting.{settingOf}
 use Rattle.rules.specs.State.{State, headWords, fresh}
 use Rattle.rules.specs.Clock.{turned}
 use Rattle.rules.specs.Hash.{places}
-use Rattle.rules.specs.Decision.{decide}
+use Rattle.rules.specs.Decision.{decide, activated, openingsLeft, answerOf}
 use Rattle.rules.specs.Policy.{limits01, narrow}
 use Rattle.rules.specs.Calls.{Call, request, done, index, refused, answered, finished, Outcome, outcome, setup, setupRefusal, refusalOf, unlessRefused, requested, reported, indexShown, performed, step, replies, activationOf, activations, timesActivated}
 use Rattle.rules.specs.Claims.{spanBound}
@@ -38,7 +38,7 @@ record Seen (c : Asked) (l : Left) (o : Outcome) : Type 0 where
 answer-opening : (t b th r : ℕ) (out : List ℕ) (a : Answer) (st : State) (words : List ℕ)
     → openingOf (asksRequest t b th r out) (leaves (outcome (answered a) st) out words) ≡ activationOf (request t b th r) (answered a)
 unfolding leaves
-answer-opening t b th r out Opened st words = refl
+answer-opening t b th r out (Opened left) st words = refl
 answer-opening t b th r out (Wait Bank u) st words = refl
 answer-opening t b th r out (Wait Rank u) st words = refl
 answer-opening t b th r out (Wait Row u) st words = refl
@@ -48,7 +48,13 @@ performed-seen : (s : Setting) (seeds : List ℕ) (st : State) (c : Asked) (word
     → Seen c (leaves (performed narrow s (λ f. seeds) st (callOf c)) (outOf c) words) (performed narrow s (λ f. seeds) st (callOf c))
 unfolding leaves requested reported indexShown
 performed-seen s seeds st (asksRequest t b th r out) words h =
-    record { opening = answer-opening t b th r out (decide narrow s (λ f. places seeds r) (turned s st t) b th r) (performed narrow s (λ f. seeds) st (request t b th r) .state) words; state = found-back _ (performed-shape narrow s (λ f. seeds) st (request t b th r) h) }
+    record { opening = answer-opening t b th r out (answerOf (decide narrow s at moved b th r) (openingsLeft s at (activated s at moved b th r) b)) (performed narrow s (λ f. seeds) st (request t b th r) .state) words; state = found-back _ (performed-shape narrow s (λ f. seeds) st (request t b th r) h) }
+  where
+    at : ℕ → List ℕ
+    at f = places seeds r
+
+    moved : State
+    moved = turned s st t
 performed-seen s seeds st (asksDone t b th) words h =
     record { opening = refl; state = found-back _ (performed-shape narrow s (λ f. seeds) st (done t b th) h) }
 performed-seen s seeds st (asksIndex t b th out) words h =

@@ -11,4 +11,5 @@ pub mod Written
 pub mod WrittenLog
 pub mod Steps
 pub mod Replies
+pub mod Unseen
 pub mod Theorems

@@ -127,7 +127,7 @@ module _ (p : Policy) where
 
   request-opens : (t b th r : ℕ) (y : Reply) → length (activationOf (request t b th r) y) ≡ openedBy y
   request-opens t b th r (refused n) = refl
-  request-opens t b th r (answered Opened) = refl
+  request-opens t b th r (answered (Opened left)) = refl
   request-opens t b th r (answered (Wait c u)) = refl
   request-opens t b th r (answered Quota) = refl
   request-opens t b th r finished = refl

@@ -63,7 +63,7 @@ record-finished p x e h = rw h
 
 -- a request is opened where its answer's number is 0
 pub opened-number : (a : Answer) → openedBy (answered a) ≡ cond (eqb (answerNumber a) 0) 1 0
-opened-number Opened = refl
+opened-number (Opened left) = refl
 opened-number (Wait Bank u) = refl
 opened-number (Wait Rank u) = refl
 opened-number (Wait Row u) = refl

@@ -3,6 +3,7 @@ use Rattle.log_format.specs.Claims.{Theorems}
 use Rattle.log_format.proofs.Agrees.{only-if, whenever}
 use Rattle.log_format.proofs.Anywhere.{only-if-anywhere, whenever-anywhere}
 use Rattle.log_format.proofs.WrittenLog.{written-agrees}
+use Rattle.log_format.proofs.Unseen.{left-unseen}
 use Rattle.log_format.proofs.Fits.{start-call, record-call, seal-call}
 
 pub theorems : Theorems
@@ -14,4 +15,5 @@ theorems =
       wheneverAnywhere = whenever-anywhere;
       writtenAgrees = written-agrees;
       callsWrite = λ m. record { start = start-call m; put = record-call; seal = seal-call };
+      leftUnseen = left-unseen;
     }

@@ -5,19 +5,20 @@ use Prim.Native.Nat.{ℕ, _+_, _-_, _*_, _/_, _%_, _^_, _≤_, _<_}
 use lib.ListN.{length}
 use Rattle.rules.specs.declared.Setting.{Setting}
 use Rattle.rules.specs.declared.Limits.{Limits}
+use Rattle.rules.specs.declared.Answer.the-variants.{Opened}
 use Rattle.rules.specs.Cells.{All}
 use Rattle.rules.specs.Answers.{none, answerNumber, answerWait}
 use Rattle.rules.specs.Setting.{settingOf, settingRefusal}
 use Rattle.rules.specs.State.{State, fresh}
 use Rattle.rules.specs.Policy.{Policy}
-use Rattle.rules.specs.Calls.{Call, Reply, refused, answered, finished, shown, setupRefusal, replies, activations}
+use Rattle.rules.specs.Calls.{Call, Reply, refused, answered, finished, shown, setupRefusal, replies, activationOf, activations}
 use Rattle.rules.specs.Claims.{UsedFlying}
 use Rattle.log_format.specs.declared.Entry.{Entry}
 use Rattle.log_format.specs.Bytes.{blockAt, blocksFrom}
 use Rattle.log_format.specs.Refusals.{sound}
 use Rattle.log_format.specs.Contents.{countIn, settingIn, seedsIn, callOf, entriesIn}
 use Rattle.log_format.specs.Blocks.{blockRefusal}
-use Rattle.log_format.specs.Verdict.{agrees, judged, memory, verdict}
+use Rattle.log_format.specs.Verdict.{agrees, judged, Running, claims, openedBy, judgeReply, memory, verdict}
 use Rattle.log_format.specs.Encode.{written, startBlock, startWritten, putRecord, recordWritten, putRecords, recordsBlock, sealWritten, logBytesOver}
 
 -- ---- what a log says
@@ -157,6 +158,16 @@ WheneverAnywhere p =
     → let said = rulesSayIn p before (settingOfLog bytes) (seedsOfLog bytes) (recordsOf bytes) in
     Decided (recordsOf bytes) said → verdict p bytes ≡ judged (length (recordsOf bytes)) (length (activations (callsOf (recordsOf bytes)) said)) agrees
 
+-- ---- openings left (document 02, e)
+
+-- A log does not carry them: whatever number an opened answer has, a record claims it alike, it counts as opened alike, and the record's step is
+-- the same.
+pub record LeftUnseen : Type 0 where
+  pub claimed : (e : Entry) (m n : ℕ) → claims e (answered (Opened m)) ≡ claims e (answered (Opened n))
+  pub opened : (m n : ℕ) → openedBy (answered (Opened m)) ≡ openedBy (answered (Opened n))
+  pub activation : (c : Call) (m n : ℕ) → activationOf c (answered (Opened m)) ≡ activationOf c (answered (Opened n))
+  pub judged : (x : Running) (e : Entry) (st : State) (m n : ℕ) → judgeReply x e (answered (Opened m)) st ≡ judgeReply x e (answered (Opened n)) st
+
 -- ---- all of it
 
 -- For every policy; in any memory for every one whose in flight depends on the used thread counters alone; that the encoder's calls refuse none, for all limits.
@@ -167,3 +178,4 @@ pub record Theorems : Type 0 where
   pub wheneverAnywhere : (p : Policy) → UsedFlying p → WheneverAnywhere p
   pub writtenAgrees : (p : Policy) → WrittenAgrees p
   pub callsWrite : (m : Limits) → CallsWrite m
+  pub leftUnseen : LeftUnseen

@@ -68,7 +68,7 @@ claims e r = eqb (e .answer) (replyNumber r) && eqb (e .wait) (replyWait r)
 -- 1 for a request that the rules open
 abbrev pub openedBy : Reply → ℕ
 openedBy (refused r) = 0
-openedBy (answered Opened) = 1
+openedBy (answered (Opened left)) = 1
 openedBy (answered (Wait c u)) = 0
 openedBy (answered Quota) = 0
 openedBy finished = 0

@@ -45,7 +45,7 @@ records : List Entry
 records = asks 0 0 0 ∷ asks 1 0 0 ∷ asks 2 3 7 ∷ asks 7 0 0 ∷ []
 
 said : List Reply
-said = answered Opened ∷ answered Opened ∷ answered (Wait Row 7) ∷ answered Opened ∷ []
+said = answered (Opened 1) ∷ answered (Opened 0) ∷ answered (Wait Row 7) ∷ answered (Opened 0) ∷ []
 
 said-is : rulesSay narrow S house records ≡ said
 unfolding records said settingOf house historyLength rowBound fieldsInRange seedsInRange settingRefusal tooShort freshHead fresh turnedCounters turnedThreads movedHead turned hash places estimate raised named counted nextPlace back neverRises memoryOk rowFree halfEven quotaEven inFlightTotal passesAt waitTick decide activatedHead activatedThreads activated setupRefusal callRefusal doneRefusal unlessRefused requested reported step memory

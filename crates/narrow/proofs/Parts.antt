@@ -1,6 +1,6 @@
 -- A move of the clock, a look and an activation, put together from what the filters and the rest of the state give.
 use Prim.Native.Nat.{ℕ, _+_, _-_, _%_}
-use mathlib.Core.Path.{_≡_, ap, _∙_}
+use mathlib.Core.Path.{_≡_, sym, ap, _∙_}
 use mathlib.Core.List.{List}
 use mathlib.Core.Bool.{Bool}
 use native.Mathlib.Omega.{arith}
@@ -40,3 +40,9 @@ activated-parts s at st z bank thread row black eb e1 e2 e3 e4 e5 =
       rows = e4 i;
       threads = (e5 ∙ ap (activatedThreads s (st .threads) bank thread) eb) i;
     }
+
+-- the estimate after it, as the filter reports it: the activation leaves the last tick
+pub estimate-read : (s : Setting) (at : ℕ → List ℕ) (st z : State) (bank thread row e r : ℕ) → z ≡ activated s at st bank thread row → e ≡ epoch s (st .head .last)
+    → r ≡ estimate (z .counters) bank (e % 2) (at (e % 2)) → r ≡ activeEstimate s at z bank
+unfolding activated activatedHead
+estimate-read s at st z bank thread row e r ez ee er = active-read s at z bank e r (ee ∙ ap (λ x. epoch s (x .head .last)) (sym ez)) er

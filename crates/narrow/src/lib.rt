@@ -95,7 +95,14 @@ pub fn look(
     )
 }
 
-// An activation at the last tick: counts the row in both filters, records it, and gives the head. black says whether the row was blacklisted.
+// The head after an activation, and the row's estimate in the active filter then.
+pub struct Activated {
+    pub head: Head,
+    pub estimate: u64,
+}
+
+// An activation at the last tick: counts the row in both filters, records it, and gives the head with the estimate that the active filter reports.
+// e is the epoch of the last tick, black says whether the row was blacklisted.
 pub fn activate(
     s: Setting,
     h: Head,
@@ -108,11 +115,20 @@ pub fn activate(
     bank: u64,
     thread: u64,
     row: u16,
+    e: u64,
     black: bool,
-) -> Head
-    requires { ⌜ Ready s h (now ticks) (now rows) (now threads) bank thread × (countersUsed s ≤ length (now counters)) × Within first × Within second × (s .n < 65536) × (getD (now threads) (threadCell s bank thread 2) 0 < 255) × (black ≡ blacklisted (s .n) (activeEstimate s (two first second) (state h (now counters) (now ticks) (now rows) (now threads)) bank)) ⌝ }
-    ensures { λ r. ⌜ state r (now (counters .exit)) (now (ticks .exit)) (now (rows .exit)) (now (threads .exit)) ≡ activated s (two first second) (state h (now (counters .entry)) (now (ticks .entry)) (now (rows .entry)) (now (threads .entry))) bank thread row ⌝ }
+) -> Activated
+    requires { ⌜ Ready s h (now ticks) (now rows) (now threads) bank thread × (countersUsed s ≤ length (now counters)) × Within first × Within second × (s .n < 65536) × (e ≡ epoch s (h .last)) × (getD (now threads) (threadCell s bank thread 2) 0 < 255) × (black ≡ blacklisted (s .n) (activeEstimate s (two first second) (state h (now counters) (now ticks) (now rows) (now threads)) bank)) ⌝ }
+    ensures { λ r. ⌜ (state (r .head) (now (counters .exit)) (now (ticks .exit)) (now (rows .exit)) (now (threads .exit)) ≡ activated s (two first second) (state h (now (counters .entry)) (now (ticks .entry)) (now (rows .entry)) (now (threads .entry))) bank thread row) × (r .estimate ≡ activeEstimate s (two first second) (state (r .head) (now (counters .exit)) (now (ticks .exit)) (now (rows .exit)) (now (threads .exit))) bank) ⌝ }
 {
-    filter_count::count(counters, bank as usize, first, second, s.n as u16);
-    state::activate(s, h, ticks, rows, threads, bank, thread, row, black)
+    let estimate = filter_count::count(
+        counters,
+        bank as usize,
+        first,
+        second,
+        s.n as u16,
+        (e % 2) as usize,
+    ) as u64;
+    let head = state::activate(s, h, ticks, rows, threads, bank, thread, row, black);
+    Activated { head, estimate }
 }

@@ -8,43 +8,46 @@ use native.Mathlib.Omega.{arith}
 use lib.Dec.{eqb}
 use Rattle.rules.specs.declared.Setting.{Setting}
 use Rattle.rules.specs.declared.Cause.the-variants.{Bank, Rank, Row}
-use Rattle.rules.specs.declared.Answer.{Answer}
-use Rattle.rules.specs.declared.Answer.the-variants.{Opened, Wait, Quota}
+use Rattle.rules.specs.declared.Decision.{Decision as Ruling}
+use Rattle.rules.specs.declared.Decision.the-variants.{Open, Hold, OverQuota}
 use Rattle.rules.specs.Answers.{Refusal, refusalNumber, answerNumber, answerWait}
 use Rattle.rules.specs.State.{State}
 use Rattle.rules.specs.Clock.{turned}
 use Rattle.rules.specs.Hash.{places}
 use Rattle.rules.specs.Policy.{Policy}
-use Rattle.rules.specs.Decision.{decide, activated}
-use Rattle.rules.specs.Calls.{Call, request, done, index, refused, answered, Outcome, afterAnswer, unlessRefused, requested, reported, indexShown, performed, refusalOf, step, replies, after}
+use Rattle.rules.specs.Decision.{decide, activated, openingsLeft, answerOf}
+use Rattle.rules.specs.Calls.{Call, request, done, index, refused, answered, Outcome, afterDecision, unlessRefused, requested, reported, indexShown, performed, refusalOf, step, replies, after}
 use Rattle.rules.specs.Claims.{withLimits}
+use Rattle.rules.proofs.Decisions.{same-decision}
 use Rattle.log_format.specs.declared.Entry.{Entry}
 use Rattle.log_format.specs.Contents.{callOf}
 use Rattle.log_format.specs.Claims.{Decision}
 use Rattle.policies.proofs.Lists.{same-first, same-others}
 
--- an answer from its number and its wait tick
-answerOf : ℕ → ℕ → Answer
-answerOf zero u = Opened
-answerOf (suc zero) u = Wait Bank u
-answerOf (suc (suc zero)) u = Wait Rank u
-answerOf (suc (suc (suc zero))) u = Wait Row u
-answerOf (suc (suc (suc (suc n)))) u = Quota
+-- a decision from the number and the wait tick of its answer
+decidedBy : ℕ → ℕ → Ruling
+decidedBy zero u = Open
+decidedBy (suc zero) u = Hold Bank u
+decidedBy (suc (suc zero)) u = Hold Rank u
+decidedBy (suc (suc (suc zero))) u = Hold Row u
+decidedBy (suc (suc (suc (suc n)))) u = OverQuota
 
-answer-back : (a : Answer) → answerOf (answerNumber a) (answerWait a) ≡ a
-unfolding answerOf
-answer-back Opened = refl
-answer-back (Wait Bank u) = refl
-answer-back (Wait Rank u) = refl
-answer-back (Wait Row u) = refl
-answer-back Quota = refl
+decided-back : (d : Ruling) (left : ℕ) → decidedBy (answerNumber (answerOf d left)) (answerWait (answerOf d left)) ≡ d
+unfolding decidedBy
+decided-back Open left = refl
+decided-back (Hold Bank u) left = refl
+decided-back (Hold Rank u) left = refl
+decided-back (Hold Row u) left = refl
+decided-back OverQuota left = refl
 
--- a record that claims both of two answers claims the same one twice
-answer-same : (e : Entry) (a b : Answer) → Decision e (answered a) → Decision e (answered b) → a ≡ b
-answer-same e a b da db =
-    let n : answerNumber a ≡ answerNumber b = sym (da .0) ∙ db .0 in
-    let u : answerWait a ≡ answerWait b = sym (da .1) ∙ db .1 in
-    sym (answer-back a) ∙ ap (λ k. answerOf k (answerWait a)) n ∙ ap (answerOf (answerNumber b)) u ∙ answer-back b
+-- a record that claims the answers of two decisions claims the same one twice
+ruling-same : (e : Entry) (c d : Ruling) (left : ℕ) → Decision e (answered (answerOf c left)) → Decision e (answered (answerOf d left)) → c ≡ d
+ruling-same e c d left dc dd =
+    let a = answerOf c left in
+    let b = answerOf d left in
+    let n : answerNumber a ≡ answerNumber b = sym (dc .0) ∙ dd .0 in
+    let u : answerWait a ≡ answerWait b = sym (dc .1) ∙ dd .1 in
+    sym (decided-back c left) ∙ ap (λ k. decidedBy k (answerWait a)) n ∙ ap (decidedBy (answerNumber b)) u ∙ decided-back d left
 
 module _ (p other : Policy) (s : Setting) (seeds : List ℕ) where
   -- the other policy at the limits of the first
@@ -60,14 +63,18 @@ module _ (p other : Policy) (s : Setting) (seeds : List ℕ) where
 
   -- ---- the state
 
-  answer-state : (a b : Answer) (before opened : State) → answered a ≡ answered b → afterAnswer a before opened ≡ afterAnswer b before opened
-  answer-state a b before opened h = let e : a ≡ b = cc in ap (λ (z : Answer). afterAnswer z before opened) e
+  -- alike in their answers, two decisions leave the same of these two states
+  decided-state : (c d : Ruling) (left : ℕ) (before opened : State) → answered (answerOf c left) ≡ answered (answerOf d left)
+      → afterDecision c before opened ≡ afterDecision d before opened
+  decided-state c d left before opened h =
+      let e : answerOf c left ≡ answerOf d left = cc in
+      ap (λ (z : Ruling). afterDecision z before opened) (same-decision c d left left e)
 
   performed-state : (st : State) (c : Call) → performed q s (λ f. seeds) st c .reply ≡ performed p s (λ f. seeds) st c .reply
       → performed q s (λ f. seeds) st c .state ≡ performed p s (λ f. seeds) st c .state
   unfolding requested reported indexShown
   performed-state st (request t b th r) h =
-      answer-state (decide q s (λ f. places seeds r) (turned s st t) b th r) (decide p s (λ f. places seeds r) (turned s st t) b th r)
+      decided-state (decide q s (λ f. places seeds r) (turned s st t) b th r) (decide p s (λ f. places seeds r) (turned s st t) b th r) _
       (turned s st t) (activated s (λ f. places seeds r) (turned s st t) b th r) h
   performed-state st (done t b th) h = refl
   performed-state st (index t b th) h = refl
@@ -119,5 +126,7 @@ module _ (p other : Policy) (s : Setting) (seeds : List ℕ) where
       go true true x y =
           let t = turned s st (e .tick) in
           let at : ℕ → List ℕ = λ f. places seeds (e .row) in
-          ap answered (answer-same e (decide q s at t (e .bank) (e .thread) (e .row)) (decide p s at t (e .bank) (e .thread) (e .row)) y x)
+          let left = openingsLeft s at (activated s at t (e .bank) (e .thread) (e .row)) (e .bank) in
+          ap (λ d. answered (answerOf d left))
+          (ruling-same e (decide q s at t (e .bank) (e .thread) (e .row)) (decide p s at t (e .bank) (e .thread) (e .row)) left y x)
       go false true x y = refl

@@ -95,12 +95,16 @@ named-place b at (suc zero) h f2 m =
     (member-map (counterCell b 1) h (at 1) m)
 named-place b at (suc (suc f)) h f2 m = absurd (omega arith)
 
+-- an activation raises it
+pub counted-raises : (n b : ℕ) (at : ℕ → List ℕ) (cs : List ℕ) (f h : ℕ) → f < 2 → T (member h (at f)) → counterCell b f h < length cs
+    → getD (counted n b at cs) (counterCell b f h) 0 ≡ raised n (getD cs (counterCell b f h) 0)
+counted-raises n b at cs f h f2 m k =
+    let j = counterCell b f h in
+    counted-cell n b at cs j k ∙ cond-yes (named b at j) (raised n (getD cs j 0)) (getD cs j 0) (named-place b at f h f2 m)
+
 pub counted-adds : (n b : ℕ) (at : ℕ → List ℕ) (cs : List ℕ) (f h : ℕ) → f < 2 → T (member h (at f)) → counterCell b f h < length cs
     → min n (getD cs (counterCell b f h) 0 + 1) ≤ getD (counted n b at cs) (counterCell b f h) 0
-counted-adds n b at cs f h f2 m k =
-    let j = counterCell b f h in
-    rw (counted-cell n b at cs j k, cond-yes (named b at j) (raised n (getD cs j 0)) (getD cs j 0) (named-place b at f h f2 m))
-    (raised-adds n (getD cs j 0))
+counted-adds n b at cs f h f2 m k = rw (counted-raises n b at cs f h f2 m k) (raised-adds n (getD cs (counterCell b f h) 0))
 
 -- counters stay below any bound that the threshold is below
 pub counted-fits : (m n b : ℕ) (at : ℕ → List ℕ) (cs : List ℕ) → n < m → All (λ c. c < m) cs → All (λ c. c < m) (counted n b at cs)
@@ -113,32 +117,26 @@ counted-fits m n b at cs h a = all-mapFrom (λ c. c < m) (λ i c. cond (named b 
 
 -- ---- the estimate
 
+-- a cell of a list is in the list
+member-cell : (l : List ℕ) (k : ℕ) → k < length l → T (member (getD l k 0) l)
+member-cell [] k h = absurd (omega arith)
+member-cell (x ∷ xs) zero h = or-l (eqb x x) (member x xs) (eqb-refl x)
+member-cell (x ∷ xs) (suc k) h = or-r (eqb (getD xs k 0) x) (member (getD xs k 0) xs) (member-cell xs k (omega arith))
+
+-- each of a row's four places
+pub place-member : (seeds : List ℕ) (r k : ℕ) → k < 4 → T (member (getD (places seeds r) k 0) (places seeds r))
+unfolding places
+place-member seeds r k h = member-cell (hash seeds 0 r ∷ hash seeds 1 r ∷ hash seeds 2 r ∷ hash seeds 3 r ∷ []) k h
+
 -- what is at most each of the row's counters is at most the estimate
 pub estimate-least : (seeds cs : List ℕ) (b f r k : ℕ) → ((h : ℕ) → T (member h (places seeds r)) → k ≤ getD cs (counterCell b f h) 0)
     → k ≤ estimate cs b f (places seeds r)
-unfolding estimate places
+unfolding estimate
 estimate-least seeds cs b f r k g =
-    le-min (le-min (g h0 (here h0 (h1 ∷ h2 ∷ h3 ∷ []))) (g h1 (there h0 h1 (h1 ∷ h2 ∷ h3 ∷ []) (here h1 (h2 ∷ h3 ∷ [])))))
-    (le-min (g h2 (there h0 h2 (h1 ∷ h2 ∷ h3 ∷ []) (there h1 h2 (h2 ∷ h3 ∷ []) (here h2 (h3 ∷ [])))))
-    (g h3 (there h0 h3 (h1 ∷ h2 ∷ h3 ∷ []) (there h1 h3 (h2 ∷ h3 ∷ []) (there h2 h3 (h3 ∷ []) (here h3 []))))))
+    le-min (le-min (at-place 0 (omega arith)) (at-place 1 (omega arith))) (le-min (at-place 2 (omega arith)) (at-place 3 (omega arith)))
   where
-    h0 : ℕ
-    h0 = hash seeds 0 r
-
-    h1 : ℕ
-    h1 = hash seeds 1 r
-
-    h2 : ℕ
-    h2 = hash seeds 2 r
-
-    h3 : ℕ
-    h3 = hash seeds 3 r
-
-    here : (x : ℕ) (l : List ℕ) → T (member x (x ∷ l))
-    here x l = or-l (eqb x x) (member x l) (eqb-refl x)
-
-    there : (y x : ℕ) (l : List ℕ) → T (member x l) → T (member x (y ∷ l))
-    there y x l h = or-r (eqb x y) (member x l) h
+    at-place : (j : ℕ) → j < 4 → k ≤ getD cs (counterCell b f (getD (places seeds r) j 0)) 0
+    at-place j h = g (getD (places seeds r) j 0) (place-member seeds r j h)
 
 -- ---- the same places in both filters
 

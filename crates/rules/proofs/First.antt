@@ -1,8 +1,8 @@
--- After set-up, a first request with bank and thread of the setting and a tick below 2^62 is opened.
-use mathlib.Core.Path.{_≡_, refl, _∙_}
+-- After set-up, a first request with bank and thread of the setting and a tick below 2^62 is opened, with N − 1 openings left.
+use mathlib.Core.Path.{_≡_, refl, ap, _∙_}
 use mathlib.Core.List.{List}
 use mathlib.Core.Bool.{Bool, true, false, not, _&&_}
-use Prim.Native.Nat.{ℕ, _-_, _/_, _%_, _^_, _≤_, _<_}
+use Prim.Native.Nat.{ℕ, _+_, _-_, _/_, _%_, _^_, _≤_, _<_}
 use native.Mathlib.Omega.{arith}
 use lib.Dec.{T, ltb, lt→ltb}
 use lib.Arith.{lt→nleb}
@@ -10,6 +10,7 @@ use borrow.Author.Tests.{lt-leb, le-ltb}
 use lib.ListN.{getD, getD-replicate}
 use Rattle.rules.specs.declared.Setting.{Setting}
 use Rattle.rules.specs.declared.Limits.{Limits}
+use Rattle.rules.specs.declared.Answer.the-variants.{Opened}
 use Rattle.rules.specs.Cells.{clearCells}
 use Rattle.rules.specs.Answers.{none, shortBuffer, refuse}
 use Rattle.rules.specs.Setting.{settingRefusal}
@@ -19,8 +20,8 @@ use Rattle.rules.specs.Hash.{places}
 use Rattle.rules.specs.Filter.{Within, estimate, blacklisted}
 use Rattle.rules.specs.History.{memoryOk}
 use Rattle.rules.specs.Policy.{Policy}
-use Rattle.rules.specs.Decision.{quotaRule, bankRule, rankRule, activeEstimate, rowRule, decide}
-use Rattle.rules.specs.Calls.{setupRefusal, callRefusal, unlessRefused, requested, step}
+use Rattle.rules.specs.Decision.{quotaRule, bankRule, rankRule, activeEstimate, rowRule, decide, activated, openingsLeft}
+use Rattle.rules.specs.Calls.{answered, setupRefusal, callRefusal, unlessRefused, requested, step}
 use Rattle.rules.specs.Claims.{Regular, FirstOpened}
 use Rattle.rules.proofs.Tests.{or-l, is-true, holds, fails}
 use Rattle.rules.proofs.Cells.{thread-in}
@@ -28,8 +29,9 @@ use Rattle.rules.proofs.Clearing.{clear-zero, clear-kept}
 use Rattle.rules.proofs.Accept.{set-up, orElse-none}
 use Rattle.rules.specs.Tested.{SetUp}
 use Rattle.rules.proofs.Places.{places-within}
-use Rattle.rules.proofs.Memory.{memory-ok}
+use Rattle.rules.proofs.Memory.{memory-ok, turned-long}
 use Rattle.rules.proofs.Sound.{fresh-sound, long-not-short}
+use Rattle.rules.proofs.Left.{left-after}
 
 -- a cell that is 0 stays 0 when cells are cleared
 still-zero : (p : ℕ → Bool) (j : ℕ) (cs : List ℕ) → getD cs j 0 ≡ 0 → getD (clearCells p cs) j 0 ≡ 0
@@ -72,14 +74,22 @@ module _ (p : Policy) (reg : Regular p) (s : Setting) (seeds : List ℕ) (before
   unfolding turned movedHead fresh freshHead
   rank-passes = tt
 
-  row-passes : T (rowRule s at st b r)
+  estimate-zero : activeEstimate s at st b ≡ 0
   unfolding estimate
+  estimate-zero = low (activeFilter s (st .head .last)) (omega arith) (places-within seeds (up .setting .seeds-ok) r)
+    where
+      low : (f : ℕ) → f < 2 → Within (places seeds r) → estimate (st .counters) b f (places seeds r) ≡ 0
+      low f f2 w = omega (arith, counter-zero f (getD (places seeds r) 0 0) f2 (w .first))
+
+  row-passes : T (rowRule s at st b r)
   row-passes =
       or-l (not (blacklisted (s .n) (activeEstimate s at st b))) _
-      (lt→nleb (s .n) (activeEstimate s at st b) (low (activeFilter s (st .head .last)) (omega arith) (places-within seeds (up .setting .seeds-ok) r)))
-    where
-      low : (f : ℕ) → f < 2 → Within (places seeds r) → estimate (st .counters) b f (places seeds r) < s .n
-      low f f2 w = omega (arith, counter-zero f (getD (places seeds r) 0 0) f2 (w .first), up .setting .ranges .n-low)
+      (lt→nleb (s .n) (activeEstimate s at st b) (omega (arith, estimate-zero, up .setting .ranges .n-low)))
+
+  one-used : openingsLeft s at (activated s at st b th r) b ≡ s .n - 1
+  one-used =
+      left-after s (λ f. seeds) (λ f f2. up .setting .seeds-ok) st b th r bh (turned-long s (fresh s before) t (fresh-sound (p .limits) s seeds before up .long) .counters)
+      ∙ ap (λ e. s .n - (e + 1)) estimate-zero
 
 -- ---- the call
 
@@ -116,3 +126,4 @@ first-opened p reg s seeds before e t b th r early bh thh =
       is-true (rankRule s st) (rank-passes p reg s seeds before up t b th r bh thh),
       is-true (rowRule s at st b r) (row-passes p reg s seeds before up t b th r bh thh),
     )
+    (ap (λ n. answered (Opened n)) (one-used p reg s seeds before up t b th r bh thh))

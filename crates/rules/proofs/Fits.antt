@@ -10,8 +10,8 @@ use lib.ListN.{getD, set, replicate}
 use Rattle.rules.specs.declared.Setting.{Setting}
 use Rattle.rules.specs.declared.Limits.{Limits}
 use Rattle.rules.specs.declared.Head.{Head}
-use Rattle.rules.specs.declared.Answer.{Answer}
-use Rattle.rules.specs.declared.Answer.the-variants.{Opened, Wait, Quota}
+use Rattle.rules.specs.declared.Decision.{Decision}
+use Rattle.rules.specs.declared.Decision.the-variants.{Open, Hold, OverQuota}
 use Rattle.rules.specs.Cells.{clearCells, All}
 use Rattle.rules.specs.Setting.{historyLength, indexScale}
 use Rattle.rules.specs.State.{State, countersUsed, threadsUsed, threadCell, rowWord, cells, headWords, freshHead, fresh}
@@ -22,7 +22,7 @@ use Rattle.rules.specs.Quota.{indexCounter}
 use Rattle.rules.specs.Policy.{Policy}
 use Rattle.rules.specs.Tested.{Ranges, Accepted, Taken}
 use Rattle.rules.specs.Decision.{quotaRule, decide, activatedHead, activatedThreads, activated}
-use Rattle.rules.specs.Calls.{Call, request, done, index, callTick, callBank, callThread, performed, refusalOf, afterAnswer, requested, reported, indexShown, step, after}
+use Rattle.rules.specs.Calls.{Call, request, done, index, callTick, callBank, callThread, performed, refusalOf, afterDecision, requested, reported, indexShown, step, after}
 use Rattle.rules.specs.Claims.{Regular, Fits, Stored, RowFits, StepFits, RunFits}
 use Rattle.rules.proofs.Cells.{set-cell, all-mapFrom, getD-first}
 use Rattle.rules.proofs.Accept.{call-taken}
@@ -193,7 +193,7 @@ few-flying p reg s seeds st b th ok bh thh q =
 
 opened-fits : (p : Policy) → Regular p → (w : ℕ) (s : Setting) (seeds : List ℕ) (at : ℕ → List ℕ) (st : State) (t b th r : ℕ)
     → s .n < 2 ^ w → r < 65536 → Taken (p .limits) s seeds st t b th
-    → decide p s at (turned s st t) b th r ≡ Opened → Stored w (turned s st t) → Stored w (activated s at (turned s st t) b th r)
+    → decide p s at (turned s st t) b th r ≡ Open → Stored w (turned s st t) → Stored w (activated s at (turned s st t) b th r)
 unfolding turned movedHead
 opened-fits p reg w s seeds at st t b th r nw r16 k e g =
     activated-stored w s at (turned s st t) b th r nw (k .early) (memory s st (k .memory) .inRing) (history-small (k .setting .ranges))
@@ -223,10 +223,10 @@ performed-fits p reg w s seeds st (request t b th r) nw r16 k f = go (decide p s
     g : Stored w (turned s st t)
     g = turned-stored w t s st (k .early) f
 
-    go : (a : Answer) → decide p s at (turned s st t) b th r ≡ a → Stored w (afterAnswer a (turned s st t) (activated s at (turned s st t) b th r))
-    go Opened e = opened-fits p reg w s seeds at st t b th r nw r16 k e g
-    go (Wait c u) e = g
-    go Quota e = g
+    go : (a : Decision) → decide p s at (turned s st t) b th r ≡ a → Stored w (afterDecision a (turned s st t) (activated s at (turned s st t) b th r))
+    go Open e = opened-fits p reg w s seeds at st t b th r nw r16 k e g
+    go (Hold c u) e = g
+    go OverQuota e = g
 performed-fits p reg w s seeds st (done t b th) nw r16 k f = done-fits w s (turned s st t) b th (turned-stored w t s st (k .early) f)
 performed-fits p reg w s seeds st (index t b th) nw r16 k f = turned-stored w t s st (k .early) f
 

@@ -13,18 +13,19 @@ use Rattle.rules.specs.declared.Setting.{Setting}
 use Rattle.rules.specs.declared.Limits.{Limits}
 use Rattle.rules.specs.declared.Cause.{Cause}
 use Rattle.rules.specs.declared.Cause.the-variants.{Row}
-use Rattle.rules.specs.declared.Answer.{Answer}
-use Rattle.rules.specs.declared.Answer.the-variants.{Opened, Wait, Quota}
-use Rattle.rules.specs.Answers.{Refusal, none, answerNumber, answerWait, refusalNumber}
+use Rattle.rules.specs.declared.Decision.{Decision}
+use Rattle.rules.specs.declared.Decision.the-variants.{Open, Hold, OverQuota}
+use Rattle.rules.specs.declared.Answer.the-variants.{Opened, Wait}
+use Rattle.rules.specs.Answers.{none, answerWait}
 use Rattle.rules.specs.Setting.{epochLength, settingRefusal}
 use Rattle.rules.specs.State.{State, state, countersUsed, threadsUsed}
 use Rattle.rules.specs.Clock.{epoch, clears, turnedCounters, turnedThreads, movedHead, turned}
 use Rattle.rules.specs.Hash.{places}
 use Rattle.rules.specs.History.{memoryOk}
 use Rattle.rules.specs.Policy.{Policy}
-use Rattle.rules.specs.Decision.{quotaRule, bankRule, rankRule, rowRule, passesAt, waitTick, firstFailing, decide, activated}
+use Rattle.rules.specs.Decision.{quotaRule, bankRule, rankRule, activeEstimate, rowRule, passesAt, waitTick, firstFailing, decide, activated, openingsLeft, answerOf}
 use Rattle.rules.specs.Tested.{Sound, Taken}
-use Rattle.rules.specs.Calls.{Call, request, done, index, Reply, refused, answered, finished, shown, callRefusal, callTick, callBank, callThread, refusalOf, unlessRefused, afterAnswer, requested, reported, indexShown, performed, step, replies, after, Activation, activationOf, activations}
+use Rattle.rules.specs.Calls.{Call, request, done, index, answered, callRefusal, callTick, callBank, callThread, refusalOf, unlessRefused, afterDecision, requested, reported, indexShown, performed, step, replies, after, Activation, activationOf, activations}
 use Rattle.rules.specs.Claims.{TurnsAdd, WaitIsLater, OpenedAtWait, NeverWaitRow}
 use Rattle.rules.proofs.Tests.{and-l, and-r, holds, is-true}
 use Rattle.rules.proofs.Clearing.{clear-clear}
@@ -32,7 +33,8 @@ use Rattle.rules.proofs.Clock.{clears-none, clears-one, clears-both, co
 use Rattle.rules.proofs.Accept.{accepted, epoch-long, orElse-none, taken, call-taken}
 use Rattle.rules.proofs.Memory.{memory, memory-ok}
 use Rattle.rules.proofs.Turn.{div-mono}
-use Rattle.rules.proofs.Step.{by-refusal, unless-taken}
+use Rattle.rules.proofs.Decisions.{kindOf, numberOf, decision-of}
+use Rattle.rules.proofs.Step.{by-refusal, Answers, answers}
 use Rattle.rules.proofs.Sound.{long-not-short, step-sound}
 use Rattle.rules.proofs.Threshold.{below-threshold}
 use Rattle.rules.proofs.Wait.{wait-is-least}
@@ -106,72 +108,47 @@ turns-add m s seeds e st t u tl ul = turned-add s st t u (omega (arith, epoch-lo
 
 -- ---- an answer that waits
 
--- which kind of answer it is
-abbrev kindOf : Answer → ℕ
-kindOf Opened = 0
-kindOf (Wait c u) = 1
-kindOf Quota = 2
-
 -- the wait tick of an answer that waits is the rules' one, and then a rule of the three fails
-waits : (q b r o : Bool) (w : ℕ) (c : Cause) (u : ℕ) → firstFailing q b r o w ≡ Wait c u → (w ≡ u) × T (not (b && (r && o)))
+waits : (q b r o : Bool) (w : ℕ) (c : Cause) (u : ℕ) → firstFailing q b r o w ≡ Hold c u → (w ≡ u) × T (not (b && (r && o)))
 waits false b r o w c u e = absurd (omega (arith, ap kindOf e))
-waits true false r o w c u e = (ap answerWait e, tt)
-waits true true false o w c u e = (ap answerWait e, tt)
-waits true true true false w c u e = (ap answerWait e, tt)
+waits true false r o w c u e = (ap (λ d. answerWait (answerOf d 0)) e, tt)
+waits true true false o w c u e = (ap (λ d. answerWait (answerOf d 0)) e, tt)
+waits true true true false w c u e = (ap (λ d. answerWait (answerOf d 0)) e, tt)
 waits true true true true w c u e = absurd (omega (arith, ap kindOf e))
 
-never-row : (q b r : Bool) (w u : ℕ) → firstFailing q b r true w ≢ Wait Row u
-never-row false b r w u e = omega (arith, ap answerNumber e)
-never-row true false r w u e = omega (arith, ap answerNumber e)
-never-row true true false w u e = omega (arith, ap answerNumber e)
-never-row true true true w u e = omega (arith, ap answerNumber e)
+never-row : (q b r : Bool) (w u : ℕ) → firstFailing q b r true w ≢ Hold Row u
+never-row false b r w u e = omega (arith, ap numberOf e)
+never-row true false r w u e = omega (arith, ap numberOf e)
+never-row true true false w u e = omega (arith, ap numberOf e)
+never-row true true true w u e = omega (arith, ap numberOf e)
 
-pub never-wait-row : (p : Policy) → NeverWaitRow p
+never-held : (p : Policy) (s : Setting) (at : ℕ → List ℕ) (st : State) (bank thread row u : ℕ) → activeEstimate s at st bank < s .n
+    → decide p s at st bank thread row ≢ Hold Row u
 unfolding decide
-never-wait-row p s at st bank thread row u low =
-    subst (λ x. firstFailing (quotaRule p s st bank thread) (bankRule s st bank) (rankRule s st) x (waitTick s at st bank row) ≢ Wait Row u)
+never-held p s at st bank thread row u low =
+    subst (λ x. firstFailing (quotaRule p s st bank thread) (bankRule s st bank) (rankRule s st) x (waitTick s at st bank row) ≢ Hold Row u)
     (sym (is-true (rowRule s at st bank row) (below-threshold s at st bank row low)))
     (never-row (quotaRule p s st bank thread) (bankRule s st bank) (rankRule s st) (waitTick s at st bank row) u)
 
--- what an answered request tells
-abbrev told : Reply → ℕ
-told (refused r) = 0
-told (answered a) = 1
-told finished = 2
-told (shown c d q) = 3
-
-abbrev answerOf : Reply → Answer
-answerOf (refused r) = Quota
-answerOf (answered a) = a
-answerOf finished = Quota
-answerOf (shown c d q) = Quota
+pub never-wait-row : (p : Policy) → NeverWaitRow p
+unfolding requested
+never-wait-row p s at st bank thread row u low e =
+    never-held p s at st bank thread row u low
+    (decision-of (decide p s at st bank thread row) (openingsLeft s at (activated s at st bank thread row) bank) (Wait Row u) (let x = e in cc))
 
 both-empty : (xs ys : List Activation) → xs ++ ys ≡ [] → (xs ≡ []) × (ys ≡ [])
 both-empty [] ys e = (refl, e)
 both-empty (x ∷ xs) ys e = absurd (omega (arith, ap (λ l. length l) e))
 
-record Answers (p : Policy) (s : Setting) (seeds : List ℕ) (st : State) (t bank thread row : ℕ) (a : Answer) : Type 0 where
-  free : callRefusal (p .limits) s seeds st t bank thread ≡ none
-  is : decide p s (λ f. places seeds row) (turned s st t) bank thread row ≡ a
-  left : step p s seeds st (request t bank thread row) .state
-      ≡ afterAnswer a (turned s st t) (activated s (λ f. places seeds row) (turned s st t) bank thread row)
-
-answers : (p : Policy) (s : Setting) (seeds : List ℕ) (st : State) (t bank thread row : ℕ) (a : Answer)
-    → step p s seeds st (request t bank thread row) .reply ≡ answered a → Answers p s seeds st t bank thread row a
-unfolding step requested
-answers p s seeds st t bank thread row a e =
-    by-refusal (λ o. o .reply ≡ answered a → o .state ≡ o .state → Answers p s seeds st t bank thread row a) r st (requested p s at (turned s st t) bank thread row)
-    (λ k z y. record { free = k; is = ap answerOf z; left = ap (λ o. o .state) (unless-taken r st (requested p s at (turned s st t) bank thread row) (ap refusalNumber k)) ∙ ap (λ x. afterAnswer x (turned s st t) (activated s at (turned s st t) bank thread row)) (ap answerOf z) })
-    (λ z y. absurd (omega (arith, ap told z))) e refl
-  where
-    r : Refusal
-    r = callRefusal (p .limits) s seeds st t bank thread
-
-    at : ℕ → List ℕ
-    at f = places seeds row
+-- the decision of a request that is answered with a wait
+held : (p : Policy) (s : Setting) (seeds : List ℕ) (st : State) (t bank thread row : ℕ) (c : Cause) (u : ℕ) → Answers p s seeds st t bank thread row (Wait c u)
+    → decide p s (λ f. places seeds row) (turned s st t) bank thread row ≡ Hold c u
+held p s seeds st t bank thread row c u k =
+    let at : ℕ → List ℕ = λ f. places seeds row in
+    decision-of (decide p s at (turned s st t) bank thread row) (openingsLeft s at (activated s at (turned s st t) bank thread row) bank) (Wait c u) (k .says)
 
 -- the wait tick, and that the three rules do not all pass at the request's tick
-waiting : (p : Policy) (s : Setting) (at : ℕ → List ℕ) (st : State) (bank thread row : ℕ) (c : Cause) (u : ℕ) → decide p s at st bank thread row ≡ Wait c u
+waiting : (p : Policy) (s : Setting) (at : ℕ → List ℕ) (st : State) (bank thread row : ℕ) (c : Cause) (u : ℕ) → decide p s at st bank thread row ≡ Hold c u
     → (waitTick s at st bank row ≡ u) × T (not (bankRule s st bank && (rankRule s st && rowRule s at st bank row)))
 unfolding decide
 waiting p s at st bank thread row c u e =
@@ -190,7 +167,7 @@ wait-is-later p s seeds st t bank thread row c u e =
     let k = answers p s seeds st t bank thread row (Wait c u) e in
     let ok = taken (p .limits) s seeds st t bank thread (k .free) in
     let at : ℕ → List ℕ = λ f. places seeds row in
-    let w = waiting p s at (turned s st t) bank thread row c u (k .is) in
+    let w = waiting p s at (turned s st t) bank thread row c u (held p s seeds st t bank thread row c u k) in
     let l = wait-is-least (p .limits) s seeds st t bank thread (k .free) at row in
     let now = passes-now s at st t bank row (omega (arith, epoch-long (ok .setting))) (ok .later) in
     go (waitTick s at (turned s st t) bank row) (w .0) (l .later) (passesAt s at (turned s st t) bank row) (l .passes) _ now (w .1)
@@ -250,13 +227,13 @@ module _ (p : Policy) (s : Setting) (seeds : List ℕ) where
   idle-performed : (y : State) (c : Call) → Taken (p .limits) s seeds y (callTick c) (callBank c) (callThread c)
       → activationOf c (performed p s (λ f. seeds) y c .reply) ≡ [] → Idle s y (performed p s (λ f. seeds) y c .state)
   unfolding requested reported indexShown
-  idle-performed y (request t b th r) k e = go (decide p s (λ f. places seeds r) (turned s y t) b th r) e
+  idle-performed y (request t b th r) k e = go (decide p s (λ f. places seeds r) (turned s y t) b th r) _ e
     where
-      go : (a : Answer) → activationOf (request t b th r) (answered a) ≡ []
-          → Idle s y (afterAnswer a (turned s y t) (activated s (λ f. places seeds r) (turned s y t) b th r))
-      go Opened z = absurd (omega (arith, ap (λ l. length l) z))
-      go (Wait c u) z = idle-turned s y t (k .later)
-      go Quota z = idle-turned s y t (k .later)
+      go : (d : Decision) (left : ℕ) → activationOf (request t b th r) (answered (answerOf d left)) ≡ []
+          → Idle s y (afterDecision d (turned s y t) (activated s (λ f. places seeds r) (turned s y t) b th r))
+      go Open left z = absurd (omega (arith, ap (λ l. length l) z))
+      go (Hold c u) left z = idle-turned s y t (k .later)
+      go OverQuota left z = idle-turned s y t (k .later)
   idle-performed y (done t b th) k e = idle-reported s y (turned s y t) b th (idle-turned s y t (k .later))
   idle-performed y (index t b th) k e = idle-turned s y t (k .later)
 
@@ -316,7 +293,8 @@ sound-free m s seeds st t bank thread e h bh th later early =
 -- a call that is not refused, with the four rules that pass
 opens : (p : Policy) (s : Setting) (seeds : List ℕ) (st : State) (t bank thread row : ℕ) → callRefusal (p .limits) s seeds st t bank thread ≡ none
     → T (quotaRule p s (turned s st t) bank thread) → T (bankRule s (turned s st t) bank) → T (rankRule s (turned s st t))
-    → T (rowRule s (λ f. places seeds row) (turned s st t) bank row) → step p s seeds st (request t bank thread row) .reply ≡ answered Opened
+    → T (rowRule s (λ f. places seeds row) (turned s st t) bank row)
+    → (n : ℕ) × (step p s seeds st (request t bank thread row) .reply ≡ answered (Opened n))
 unfolding step unlessRefused requested decide
 opens p s seeds st t bank thread row e q b r o =
     rw (
@@ -326,6 +304,7 @@ opens p s seeds st t bank thread row e q b r o =
       is-true (rankRule s (turned s st t)) r,
       is-true (rowRule s (λ f. places seeds row) (turned s st t) bank row) o,
     )
+    (openingsLeft s (λ f. places seeds row) (activated s (λ f. places seeds row) (turned s st t) bank thread row) bank, refl)
 
 pub opened-at-wait : (p : Policy) → OpenedAtWait p
 unfolding callRefusal
@@ -338,7 +317,7 @@ opened-at-wait p s seeds st t bank thread row c u e early cs none-made lastly qu
     let left = step p s seeds st (request t bank thread row) .state in
     let z = after p s seeds left cs in
     let l = wait-is-least (p .limits) s seeds st t bank thread (k .free) at row in
-    let w = waiting p s at (turned s st t) bank thread row c u (k .is) in
+    let w = waiting p s at (turned s st t) bank thread row c u (held p s seeds st t bank thread row c u k) in
     let passes : T (passesAt s at left bank row u) = subst (λ x. T (passesAt s at x bank row u)) (sym (k .left)) (subst (λ v. T (passesAt s at (turned s st t) bank row v)) (w .0) (l .passes)) in
     let rules = idle-passes s at left z bank row u d1 (idle-run p s seeds cs left d1 none-made) lastly passes in
     let before : Sound s st = record { long = ok .long; ok = memory s st (ok .memory) } in

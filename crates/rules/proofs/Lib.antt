@@ -15,7 +15,9 @@ pub mod Turn
 pub mod Activate
 pub mod Memory
 pub mod Moves
+pub mod Decisions
 pub mod Step
+pub mod Left
 pub mod Demand
 pub mod Sound
 pub mod Rounding

@@ -10,8 +10,8 @@ use lib.ListN.{List·getD-eq-default, length, getD, set, length-set}
 use lib.Dec.{T, ltb, eqb, eqb→eq, eqb-refl, ltb→lt, not-T}
 use lib.Seq.{getD-set-other}
 use Rattle.rules.specs.declared.Setting.{Setting}
-use Rattle.rules.specs.declared.Answer.{Answer}
-use Rattle.rules.specs.declared.Answer.the-variants.{Opened, Wait, Quota}
+use Rattle.rules.specs.declared.Decision.{Decision}
+use Rattle.rules.specs.declared.Decision.the-variants.{Open, Hold, OverQuota}
 use Rattle.rules.specs.Cells.{member, clearCells}
 use Rattle.rules.specs.Setting.{historyLength, indexScale}
 use Rattle.rules.specs.State.{State, countersUsed, threadsUsed, counterCell, threadCell, fresh}
@@ -21,7 +21,7 @@ use Rattle.rules.specs.Filter.{blacklisted, raised, named, counted}
 use Rattle.rules.specs.Policy.{Policy}
 use Rattle.rules.specs.Decision.{activeEstimate, decide, activatedThreads, activated}
 use Rattle.rules.specs.Tested.{Taken}
-use Rattle.rules.specs.Calls.{Call, request, done, index, finished, outcome, setup, setupRefusal, callTick, callBank, callThread, refusalOf, afterAnswer, requested, reported, indexShown, performed, step}
+use Rattle.rules.specs.Calls.{Call, request, done, index, finished, outcome, setup, setupRefusal, callTick, callBank, callThread, refusalOf, afterDecision, requested, reported, indexShown, performed, step}
 use Rattle.rules.specs.Claims.{SameFrom, SameRest, RestKept}
 use Rattle.rules.proofs.Tests.{and-l, or-l, or-r, or-e, cond-no}
 use Rattle.rules.proofs.Cells.{thread-in}
@@ -171,12 +171,12 @@ performed-rest : (p : Policy) (s : Setting) (seeds : List ℕ) (st : State) (c :
 unfolding requested indexShown turned movedHead
 performed-rest p s seeds st (request t b th r) k = go (decide p s (λ f. places seeds r) (turned s st t) b th r)
   where
-    go : (a : Answer) → SameRest s st (afterAnswer a (turned s st t) (activated s (λ f. places seeds r) (turned s st t) b th r))
-    go Opened =
+    go : (a : Decision) → SameRest s st (afterDecision a (turned s st t) (activated s (λ f. places seeds r) (turned s st t) b th r))
+    go Open =
         then-rest s st (turned s st t) (activated s (λ f. places seeds r) (turned s st t) b th r) (turned-rest s st t)
         (activated-rest s (λ f. places seeds r) (turned s st t) b th r (k .bank-in) (k .thread-in) (memory s st (k .memory) .inRing) (λ f h q. place-lt seeds (k .setting .seeds-ok) r h q))
-    go (Wait c u) = turned-rest s st t
-    go Quota = turned-rest s st t
+    go (Hold c u) = turned-rest s st t
+    go OverQuota = turned-rest s st t
 performed-rest p s seeds st (done t b th) k =
     then-rest s st (turned s st t) (reported s (turned s st t) b th .state) (turned-rest s st t) (reported-rest s (turned s st t) b th (k .bank-in) (k .thread-in))
 performed-rest p s seeds st (index t b th) k = turned-rest s st t

@@ -10,8 +10,8 @@ use borrow.Author.Tests.{le-ltb}
 use lib.ListN.{length, getD}
 use Rattle.rules.specs.declared.Setting.{Setting}
 use Rattle.rules.specs.declared.Limits.{Limits}
-use Rattle.rules.specs.declared.Answer.{Answer}
-use Rattle.rules.specs.declared.Answer.the-variants.{Opened, Wait, Quota}
+use Rattle.rules.specs.declared.Decision.{Decision}
+use Rattle.rules.specs.declared.Decision.the-variants.{Open, Hold, OverQuota}
 use Rattle.rules.specs.Cells.{All}
 use Rattle.rules.specs.Answers.{none, shortBuffer, badMemory, outsideSetting, badTick, noneInFlight, refusalNumber, refuse}
 use Rattle.rules.specs.Setting.{historyLength, settingRefusal}
@@ -22,7 +22,7 @@ use Rattle.rules.specs.History.{memoryOk}
 use Rattle.rules.specs.Policy.{Policy}
 use Rattle.rules.specs.Tested.{Long, Sound, SetUp}
 use Rattle.rules.specs.Decision.{decide, activated}
-use Rattle.rules.specs.Calls.{Call, request, done, index, Reply, refused, returnCode, setupRefusal, callRefusal, doneRefusal, callTick, performed, refusalOf, afterAnswer, requested, reported, indexShown, step, replies}
+use Rattle.rules.specs.Calls.{Call, request, done, index, Reply, refused, returnCode, setupRefusal, callRefusal, doneRefusal, callTick, performed, refusalOf, afterDecision, requested, reported, indexShown, step, replies}
 use Rattle.rules.specs.Claims.{NeverMemory}
 use Rattle.rules.proofs.Tests.{is-true}
 use Rattle.rules.proofs.Accept.{set-up, history-pos, first-refusal, orElse-none, call-taken}
@@ -55,10 +55,10 @@ performed-sound p s seeds st (request t b th r) k h = go (decide p s at (turned 
     moved : Sound s (turned s st t)
     moved = turned-sound s st t k h
 
-    go : (a : Answer) → Sound s (afterAnswer a (turned s st t) (activated s at (turned s st t) b th r))
-    go Opened = record { long = activated-long s at (turned s st t) b th r (moved .long); ok = activated-memory s at (turned s st t) b th r (moved .long) (moved .ok) }
-    go (Wait c u) = moved
-    go Quota = moved
+    go : (a : Decision) → Sound s (afterDecision a (turned s st t) (activated s at (turned s st t) b th r))
+    go Open = record { long = activated-long s at (turned s st t) b th r (moved .long); ok = activated-memory s at (turned s st t) b th r (moved .long) (moved .ok) }
+    go (Hold c u) = moved
+    go OverQuota = moved
 performed-sound p s seeds st (done t b th) k h =
     let moved = turned-sound s st t k h in
     record { long = reported-long s (turned s st t) b th (moved .long); ok = moved .ok }

@@ -9,33 +9,35 @@ use borrow.Author.Tests.{eq-eqb, ne-eqb}
 use lib.Dec.{T, eqb, eqb→eq}
 use Rattle.rules.specs.declared.Setting.{Setting}
 use Rattle.rules.specs.declared.Limits.{Limits}
+use Rattle.rules.specs.declared.Decision.{Decision}
+use Rattle.rules.specs.declared.Decision.the-variants.{Open, Hold, OverQuota}
 use Rattle.rules.specs.declared.Answer.{Answer}
-use Rattle.rules.specs.declared.Answer.the-variants.{Opened, Wait, Quota}
-use Rattle.rules.specs.Answers.{Refusal, none, refusalNumber, answerNumber}
+use Rattle.rules.specs.Answers.{Refusal, none, refusalNumber}
 use Rattle.rules.specs.Setting.{seedsInRange}
 use Rattle.rules.specs.State.{State, fresh}
 use Rattle.rules.specs.Clock.{movedHead, turned}
 use Rattle.rules.specs.Hash.{places}
 use Rattle.rules.specs.Policy.{Policy}
-use Rattle.rules.specs.Decision.{quotaRule, bankRule, rankRule, rowRule, waitTick, firstFailing, decide, activated}
+use Rattle.rules.specs.Decision.{quotaRule, bankRule, rankRule, rowRule, waitTick, firstFailing, decide, activated, openingsLeft, answerOf}
 use Rattle.rules.specs.Tested.{Long, Taken}
-use Rattle.rules.specs.Calls.{Call, request, done, index, refused, answered, finished, returnCode, setup, setupRefusal, Outcome, outcome, unlessRefused, afterAnswer, requested, reported, indexShown, callTick, callBank, callThread, performed, refusalOf, step, replies, after, Activation, activationOf, activations}
+use Rattle.rules.specs.Calls.{Call, request, done, index, Reply, refused, answered, finished, shown, returnCode, setup, setupRefusal, callRefusal, Outcome, outcome, unlessRefused, afterDecision, requested, reported, indexShown, callTick, callBank, callThread, performed, refusalOf, step, replies, after, Activation, activationOf, activations}
 use Rattle.rules.specs.Moves.{Owned, Move, clock, activate, renew, Reseeds, SameParts, AllAllowed, movedBy, madeBy, Moves}
 use Rattle.rules.proofs.Tests.{holds}
 use Rattle.rules.proofs.Accept.{number-none, call-taken}
 use Rattle.rules.proofs.Memory.{turned-long}
+use Rattle.rules.proofs.Decisions.{kindOf, decisionOf, decision-of}
 
 -- ---- the rules of an opened request
 
--- an answer is opened only if all four rules pass
-all-pass : (a b c d : Bool) (u : ℕ) → firstFailing a b c d u ≡ Opened → T a × T b × T c × T d
-all-pass false b c d u e = absurd (omega (arith, ap answerNumber e))
-all-pass true false c d u e = absurd (omega (arith, ap answerNumber e))
-all-pass true true false d u e = absurd (omega (arith, ap answerNumber e))
-all-pass true true true false u e = absurd (omega (arith, ap answerNumber e))
+-- a row is opened only if all four rules pass
+all-pass : (a b c d : Bool) (u : ℕ) → firstFailing a b c d u ≡ Open → T a × T b × T c × T d
+all-pass false b c d u e = absurd (omega (arith, ap kindOf e))
+all-pass true false c d u e = absurd (omega (arith, ap kindOf e))
+all-pass true true false d u e = absurd (omega (arith, ap kindOf e))
+all-pass true true true false u e = absurd (omega (arith, ap kindOf e))
 all-pass true true true true u e = (tt, tt, tt, tt)
 
-pub opened-rules : (p : Policy) (s : Setting) (at : ℕ → List ℕ) (st : State) (b th r : ℕ) → decide p s at st b th r ≡ Opened
+pub opened-rules : (p : Policy) (s : Setting) (at : ℕ → List ℕ) (st : State) (b th r : ℕ) → decide p s at st b th r ≡ Open
     → T (quotaRule p s st b th) × T (bankRule s st b) × T (rankRule s st) × T (rowRule s at st b r)
 unfolding decide
 opened-rules p s at st b th r e =
@@ -69,6 +71,59 @@ setup-code m s seeds st =
 pub setup-state : (m : Limits) (s : Setting) (seeds : List ℕ) (st : State) → refusalNumber (setupRefusal m s seeds st) ≡ 0 → setup m s seeds st .state ≡ fresh s st
 unfolding setup
 setup-state m s seeds st e = ap (λ o. o .state) (unless-taken (setupRefusal m s seeds st) st (outcome finished (fresh s st)) e)
+
+-- ---- a request that is answered
+
+-- what tells an answer from other replies
+abbrev told : Reply → ℕ
+told (refused r) = 0
+told (answered a) = 1
+told finished = 2
+told (shown c d q) = 3
+
+-- the answer that a reply holds, or another one
+abbrev answerIn : Reply → Answer → Answer
+answerIn (refused r) other = other
+answerIn (answered a) other = a
+answerIn finished other = other
+answerIn (shown c d q) other = other
+
+-- It was not refused, the answer is that of the decision on the turned state, and the state is the one after the decision.
+pub record Answers (p : Policy) (s : Setting) (seeds : List ℕ) (st : State) (t bank thread row : ℕ) (a : Answer) : Type 0 where
+  pub free : callRefusal (p .limits) s seeds st t bank thread ≡ none
+  pub says : answerOf (decide p s (λ f. places seeds row) (turned s st t) bank thread row)
+      (openingsLeft s (λ f. places seeds row) (activated s (λ f. places seeds row) (turned s st t) bank thread row) bank) ≡ a
+  pub left : step p s seeds st (request t bank thread row) .state
+      ≡ afterDecision (decisionOf a) (turned s st t) (activated s (λ f. places seeds row) (turned s st t) bank thread row)
+
+pub answers : (p : Policy) (s : Setting) (seeds : List ℕ) (st : State) (t bank thread row : ℕ) (a : Answer)
+    → step p s seeds st (request t bank thread row) .reply ≡ answered a → Answers p s seeds st t bank thread row a
+unfolding step requested
+answers p s seeds st t bank thread row a e =
+    by-refusal (λ o. o .reply ≡ answered a → Answers p s seeds st t bank thread row a) r st (requested p s at moved bank thread row) taken-so
+    (λ z. absurd (omega (arith, ap told z))) e
+  where
+    r : Refusal
+    r = callRefusal (p .limits) s seeds st t bank thread
+
+    at : ℕ → List ℕ
+    at f = places seeds row
+
+    moved : State
+    moved = turned s st t
+
+    opened : State
+    opened = activated s at moved bank thread row
+
+    taken-so : r ≡ none → requested p s at moved bank thread row .reply ≡ answered a → Answers p s seeds st t bank thread row a
+    taken-so k z =
+        let says = ap (λ x. answerIn x a) z in
+        record {
+          free = k;
+          says = says;
+          left = ap (λ o. o .state) (unless-taken r st (requested p s at moved bank thread row) (ap refusalNumber k))
+              ∙ ap (λ d. afterDecision d moved opened) (decision-of (decide p s at moved bank thread row) (openingsLeft s at opened bank) a says);
+        }
 
 -- ---- moves one after the other
 
@@ -137,9 +192,12 @@ module _ (p : Policy) (s : Setting) (seeds : List ℕ) where
       at : ℕ → List ℕ
       at f = places seeds r
 
-      go : (a : Answer) → decide p s at (turned s st t) b th r ≡ a
-          → ByMoves st (request t b th r) (record { reply = answered a; state = afterAnswer a (turned s st t) (activated s at (turned s st t) b th r) })
-      go Opened e =
+      opened : State
+      opened = activated s at (turned s st t) b th r
+
+      go : (d : Decision) → decide p s at (turned s st t) b th r ≡ d
+          → ByMoves st (request t b th r) (record { reply = answered (answerOf d (openingsLeft s at opened b)); state = afterDecision d (turned s st t) opened })
+      go Open e =
           let q = opened-rules p s at (turned s st t) b th r e in
           record {
             moves = clock t (λ f. seeds) ∷ activate b th r ∷ [];
@@ -147,8 +205,8 @@ module _ (p : Policy) (s : Setting) (seeds : List ℕ) where
             end = refl;
             makes = refl;
           }
-      go (Wait c u) e = record { moves = clock t (λ f. seeds) ∷ []; allowed = ((k .later, reseeds _ _ (k .setting .seeds-ok)), tt); end = refl; makes = refl }
-      go Quota e = record { moves = clock t (λ f. seeds) ∷ []; allowed = ((k .later, reseeds _ _ (k .setting .seeds-ok)), tt); end = refl; makes = refl }
+      go (Hold c u) e = record { moves = clock t (λ f. seeds) ∷ []; allowed = ((k .later, reseeds _ _ (k .setting .seeds-ok)), tt); end = refl; makes = refl }
+      go OverQuota e = record { moves = clock t (λ f. seeds) ∷ []; allowed = ((k .later, reseeds _ _ (k .setting .seeds-ok)), tt); end = refl; makes = refl }
   performed-moves st (done t b th) k =
       record {
         moves = clock t (λ f. seeds) ∷ renew (reported s (turned s st t) b th .state) ∷ [];

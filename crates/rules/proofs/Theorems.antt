@@ -10,6 +10,7 @@ use Rattle.rules.proofs.Regular.{in-force-rounds, in-force-sums, in-for
 use Rattle.rules.proofs.Used.{same-replies}
 use Rattle.rules.proofs.Rest.{rest-kept}
 use Rattle.rules.proofs.Later.{turns-add, wait-is-later, opened-at-wait, never-wait-row}
+use Rattle.rules.proofs.Left.{left-after, left-of-opened}
 use Rattle.rules.proofs.First.{first-opened}
 use Rattle.rules.proofs.Sound.{never-memory}
 use Rattle.rules.proofs.Fits.{step-fits, run-fits}
@@ -32,6 +33,8 @@ theorems =
       restKept = rest-kept;
       sameReplies = same-replies;
       firstOpened = first-opened;
+      leftAfter = left-after;
+      leftOfOpened = left-of-opened;
       neverMemory = never-memory;
       stepFits = step-fits;
       runFits = run-fits;

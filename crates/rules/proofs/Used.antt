@@ -10,8 +10,8 @@ use lib.ListN.{length, getD, set, length-set}
 use lib.Seq.{getD-set-same, getD-set-other}
 use Rattle.rules.specs.declared.Setting.{Setting}
 use Rattle.rules.specs.declared.Limits.{Limits}
-use Rattle.rules.specs.declared.Answer.{Answer}
-use Rattle.rules.specs.declared.Answer.the-variants.{Opened, Wait, Quota}
+use Rattle.rules.specs.declared.Decision.{Decision}
+use Rattle.rules.specs.declared.Decision.the-variants.{Open, Hold, OverQuota}
 use Rattle.rules.specs.Cells.{every, clearCells, leastFrom}
 use Rattle.rules.specs.Answers.{Refusal, none, refusalNumber, refuse, noneInFlight}
 use Rattle.rules.specs.Setting.{historyLength, indexScale, settingRefusal}
@@ -21,9 +21,9 @@ use Rattle.rules.specs.Hash.{places}
 use Rattle.rules.specs.Filter.{Within, estimate, blacklisted, raised, named}
 use Rattle.rules.specs.History.{back, notAfter, neverRises, memoryOk, matches, rowFree}
 use Rattle.rules.specs.Policy.{Policy}
-use Rattle.rules.specs.Decision.{passed, quotaRule, bankRule, rankRule, activeEstimate, rowRule, passesAt, waitTick, firstFailing, decide, activatedHead, activatedThreads, activated}
+use Rattle.rules.specs.Decision.{passed, quotaRule, bankRule, rankRule, activeEstimate, rowRule, passesAt, waitTick, firstFailing, decide, activatedHead, activatedThreads, activated, answerOf}
 use Rattle.rules.specs.Tested.{Long, Taken}
-use Rattle.rules.specs.Calls.{Call, request, done, index, refused, shown, Outcome, outcome, callRefusal, doneRefusal, callTick, callBank, callThread, refusalOf, unlessRefused, afterAnswer, requested, reported, indexShown, performed, step, replies, after}
+use Rattle.rules.specs.Calls.{Call, request, done, index, refused, answered, shown, Outcome, outcome, callRefusal, doneRefusal, callTick, callBank, callThread, refusalOf, unlessRefused, afterDecision, requested, reported, indexShown, performed, step, replies, after}
 use Rattle.rules.specs.Claims.{UsedFlying, SameUsed, withLimits, SameReplies}
 use Rattle.rules.proofs.Tests.{holds, fails, every-same}
 use Rattle.rules.proofs.Cells.{thread-in}
@@ -298,7 +298,10 @@ module _ (p : Policy) (fly : UsedFlying p) (m : Limits) (s : Setting) (seeds : L
       → Alike s (performed p s (λ f. seeds) a c) (performed (withLimits p m) s (λ f. seeds) b c)
   unfolding requested reported indexShown
   performed-used a b u (request t bank thread row) k =
-      rw (decide-used p fly m s x y v at bank thread row (k .bank-in) (k .thread-in) w) (refl, go (decide p s at x bank thread row))
+      rw (decide-used p fly m s x y v at bank thread row (k .bank-in) (k .thread-in) w) (
+        ap (λ e. answered (answerOf (decide p s at x bank thread row) (s .n - e))) (active-used s (opened x) (opened y) both at bank (k .bank-in) w),
+        go (decide p s at x bank thread row),
+      )
     where
       x : State
       x = turned s a t
@@ -315,10 +318,16 @@ module _ (p : Policy) (fly : UsedFlying p) (m : Limits) (s : Setting) (seeds : L
       w : (f : ℕ) → Within (places seeds row)
       w f = places-within seeds (k .setting .seeds-ok) row
 
-      go : (d : Answer) → SameUsed s (afterAnswer d (turned s a t) (activated s at (turned s a t) bank thread row)) (afterAnswer d (turned s b t) (activated s at (turned s b t) bank thread row))
-      go Opened = activated-used s x y v at bank thread row (k .bank-in) (k .thread-in) w (next-turned s a t (memory s a (k .memory) .inRing))
-      go (Wait c d) = v
-      go Quota = v
+      opened : State → State
+      opened z = activated s at z bank thread row
+
+      both : SameUsed s (opened (turned s a t)) (opened (turned s b t))
+      both = activated-used s x y v at bank thread row (k .bank-in) (k .thread-in) w (next-turned s a t (memory s a (k .memory) .inRing))
+
+      go : (d : Decision) → SameUsed s (afterDecision d (turned s a t) (opened (turned s a t))) (afterDecision d (turned s b t) (opened (turned s b t)))
+      go Open = both
+      go (Hold c u′) = v
+      go OverQuota = v
   performed-used a b u (done t bank thread) k = (refl, reported-used s (turned s a t) (turned s b t) (turned-used s a b t u) bank thread (k .bank-in) (k .thread-in))
   performed-used a b u (index t bank thread) k =
       let v = turned-used s a b t u in

@@ -14,15 +14,21 @@ causeNumber Rank = 2
 causeNumber Row = 3
 
 abbrev pub answerNumber : Answer → ℕ
-answerNumber Opened = 0
+answerNumber (Opened left) = 0
 answerNumber (Wait c u) = causeNumber c
 answerNumber Quota = 4
 
 -- "The wait tick of the rules is 0 for answers 0 and 4."
 abbrev pub answerWait : Answer → ℕ
-answerWait Opened = 0
+answerWait (Opened left) = 0
 answerWait (Wait c u) = u
 answerWait Quota = 0
+
+-- Document 02, e: "an opened answer carries N minus the estimate after the opening, never below 0"; any other carries 0.
+abbrev pub answerLeft : Answer → ℕ
+answerLeft (Opened left) = left
+answerLeft (Wait c u) = 0
+answerLeft Quota = 0
 
 -- "Refusals, by who can cause them"; none stands for a call that is answered.
 pub data Refusal : Type 0 where

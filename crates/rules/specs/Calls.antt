@@ -6,10 +6,11 @@ use lib.Dec.{leb, ltb, eqb}
 use lib.ListN.{getD, set}
 use Rattle.rules.specs.declared.Setting.{Setting}
 use Rattle.rules.specs.declared.Limits.{Limits}
+use Rattle.rules.specs.declared.Decision.{Decision}
 use Rattle.rules.specs.declared.Answer.{Answer}
 use Rattle.rules.specs.declared.Answer.the-variants.{Opened, Wait, Quota}
 use Rattle.rules.specs.Cells.{count}
-use Rattle.rules.specs.Answers.{Refusal, none, shortBuffer, badMemory, outsideSetting, badTick, noneInFlight, refusalNumber, refuse, orElse, answerNumber, answerWait}
+use Rattle.rules.specs.Answers.{Refusal, none, shortBuffer, badMemory, outsideSetting, badTick, noneInFlight, refusalNumber, refuse, orElse, answerNumber, answerWait, answerLeft}
 use Rattle.rules.specs.Setting.{indexScale, settingRefusal}
 use Rattle.rules.specs.State.{State, threadCell, tooShort, fresh}
 use Rattle.rules.specs.Clock.{activeFilter, turned}
@@ -17,7 +18,7 @@ use Rattle.rules.specs.Hash.{places}
 use Rattle.rules.specs.History.{memoryOk}
 use Rattle.rules.specs.Quota.{indexCounter}
 use Rattle.rules.specs.Policy.{Policy}
-use Rattle.rules.specs.Decision.{decide, activated}
+use Rattle.rules.specs.Decision.{decide, activated, openingsLeft, opens, answerOf}
 
 -- "Four calls: set up, request a row, report a request done, read a thread's index." Set-up stands before the list of the others.
 pub data Call : Type 0 where
@@ -42,7 +43,7 @@ returnCode (shown c scale quota) = 0
 -- the words that a call writes for the caller; a refused call and a done write none
 abbrev pub outWords : Reply → List ℕ → List ℕ
 outWords (refused r) out = out
-outWords (answered a) out = answerNumber a ∷ answerWait a ∷ []
+outWords (answered a) out = answerNumber a ∷ answerWait a ∷ answerLeft a ∷ []
 outWords finished out = out
 outWords (shown c scale quota) out = c ∷ scale ∷ quota ∷ []
 
@@ -77,20 +78,19 @@ unfoldable pub unlessRefused : Refusal → State → Outcome → Outcome
 unlessRefused r st o = cond (eqb (refusalNumber r) 0) o (record { reply = refused r; state = st })
 
 -- the state after a decision: only an activation changes it
-abbrev pub afterAnswer : Answer → State → State → State
-afterAnswer Opened before opened = opened
-afterAnswer (Wait c u) before opened = before
-afterAnswer Quota before opened = before
+abbrev pub afterDecision : Decision → State → State → State
+afterDecision d before opened = cond (opens d) opened before
 
 -- set-up: "Set-up clears the used parts and the head"
 unfoldable pub setup : Limits → Setting → List ℕ → State → Outcome
 setup m s seeds st = unlessRefused (setupRefusal m s seeds st) st (record { reply = finished; state = fresh s st })
 
--- a request on the state turned to its tick; at f gives the row's places in filter f
+-- A request on the state turned to its tick; at f gives the row's places in filter f. The openings left are those after the activation.
 unfoldable pub requested : Policy → Setting → (ℕ → List ℕ) → State → ℕ → ℕ → ℕ → Outcome
 requested p s at st bank thread row =
-    let a = decide p s at st bank thread row in
-    record { reply = answered a; state = afterAnswer a st (activated s at st bank thread row) }
+    let d = decide p s at st bank thread row in
+    let opened = activated s at st bank thread row in
+    record { reply = answered (answerOf d (openingsLeft s at opened bank)); state = afterDecision d st opened }
 
 -- "a done takes 1 from in flight": of its bank, and so "Done for a bank lowers the total" (document 02, b)
 abbrev pub oneLess : Setting → ℕ → ℕ → List ℕ → List ℕ
@@ -166,7 +166,7 @@ pub record Activation : Type 0 where
 
 -- "an opening is a request of the list answered opened, at that request's tick"
 abbrev pub activationOf : Call → Reply → List Activation
-activationOf (request t b th r) (answered Opened) = record { tick = t; bank = b; thread = th; row = r } ∷ []
+activationOf (request t b th r) (answered (Opened left)) = record { tick = t; bank = b; thread = th; row = r } ∷ []
 activationOf (request t b th r) (answered (Wait c u)) = []
 activationOf (request t b th r) (answered Quota) = []
 activationOf (request t b th r) (refused n) = []

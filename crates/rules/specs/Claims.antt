@@ -16,13 +16,14 @@ use Rattle.rules.specs.Answers.{none, shortBuffer, badMemory}
 use Rattle.rules.specs.Setting.{epochLength, historyLength, rowBound, indexScale, seedsInRange, settingRefusal}
 use Rattle.rules.specs.State.{State, countersUsed, threadsUsed, threadCell, rowWord, fresh, headWords}
 use Rattle.rules.specs.Clock.{epoch, turned}
+use Rattle.rules.specs.Hash.{places}
 use Rattle.rules.specs.Filter.{Within, estimate}
 use Rattle.rules.specs.History.{find}
 use Rattle.rules.specs.Quota.{halfEven, inFlightHere}
 use Rattle.rules.specs.Policy.{Policy, inForce}
 use Rattle.rules.specs.Tested.{Accepted, Long}
-use Rattle.rules.specs.Decision.{quotaRule, activeEstimate, rowRule, decide, passesAt, waitTick}
-use Rattle.rules.specs.Calls.{Call, request, done, index, refused, answered, setup, setupRefusal, callRefusal, step, replies, after, activationOf, activations, timesActivated}
+use Rattle.rules.specs.Decision.{quotaRule, activeEstimate, rowRule, passesAt, waitTick, activated, openingsLeft}
+use Rattle.rules.specs.Calls.{Call, request, done, index, refused, answered, setup, setupRefusal, callRefusal, requested, step, replies, after, activationOf, activations, timesActivated}
 use Rattle.rules.specs.Moves.{Move, AllAllowed, madeBy, Moves}
 
 -- ---- demand 3 and spans of every length
@@ -141,7 +142,7 @@ OpenedAtWait p =
     → (cs : List Call) → let left = step p s seeds st (request t bank thread row) .state in
     activations cs (replies p s seeds left cs) ≡ []
     → after p s seeds left cs .head .last ≤ u → T (quotaRule p s (turned s (after p s seeds left cs) u) bank thread)
-    → step p s seeds (after p s seeds left cs) (request u bank thread row) .reply ≡ answered Opened
+    → (n : ℕ) × (step p s seeds (after p s seeds left cs) (request u bank thread row) .reply ≡ answered (Opened n))
 
 -- ---- what is never held or refused
 
@@ -152,7 +153,8 @@ BelowThreshold = (s : Setting) (at : ℕ → List ℕ) (st : State) (bank row : 
 -- So such a row is never answered `Wait Row`.
 abbrev pub NeverWaitRow : Policy → Type 0
 NeverWaitRow p =
-    (s : Setting) (at : ℕ → List ℕ) (st : State) (bank thread row u : ℕ) → activeEstimate s at st bank < s .n → decide p s at st bank thread row ≢ Wait Row u
+    (s : Setting) (at : ℕ → List ℕ) (st : State) (bank thread row u : ℕ) → activeEstimate s at st bank < s .n
+    → requested p s at st bank thread row .reply ≢ answered (Wait Row u)
 
 -- What the claims about every policy ask of its quota and of what in flight means to it: a quota of at most 255, and of 1 or more while
 -- the index counter is 0, under a setting that its limits accept; none in flight where the thread counters are 0, and never fewer than the
@@ -189,12 +191,32 @@ abbrev pub SumsBanks : Policy → Type 0
 SumsBanks p =
     (s : Setting) (threads : List ℕ) (bank thread : ℕ) → p .inFlight s threads bank thread ≡ sumBelow (s .banks) (λ b. inFlightHere s threads b thread)
 
--- A first request after set-up, with bank and thread of the setting and a tick below 2^62, is opened.
+-- A first request after set-up, with bank and thread of the setting and a tick below 2^62, is opened, with N − 1 openings left.
 abbrev pub FirstOpened : Policy → Type 0
 FirstOpened p =
     (s : Setting) (seeds : List ℕ) (before : State) → setupRefusal (p .limits) s seeds before ≡ none
     → (t bank thread row : ℕ) → t < 2 ^ 62 → bank < s .banks → thread < s .threads
-    → (step p s seeds (fresh s before) (request t bank thread row)) .reply ≡ answered Opened
+    → (step p s seeds (fresh s before) (request t bank thread row)) .reply ≡ answered (Opened (s .n - 1))
+
+-- ---- openings left (document 02, e)
+
+-- After an activation they are N less the estimate before it plus 1, for any contents of the counters, those above N included, and any
+-- seeds of each filter, so that places may coincide.
+abbrev pub LeftAfter : Type 0
+LeftAfter =
+    (s : Setting) (own : ℕ → List ℕ) → ((f : ℕ) → f < 2 → T (seedsInRange (own f)))
+    → (st : State) (bank thread row : ℕ) → bank < s .banks → countersUsed s ≤ length (st .counters)
+    → let at : ℕ → List ℕ = λ f. places (own f) row in
+    openingsLeft s at (activated s at st bank thread row) bank ≡ s .n - (activeEstimate s at st bank + 1)
+
+-- So are those that an opened answer of any call carries.
+abbrev pub LeftOfOpened : Policy → Type 0
+LeftOfOpened p =
+    (s : Setting) (seeds : List ℕ) (st : State) (t bank thread row left : ℕ)
+    → step p s seeds st (request t bank thread row) .reply ≡ answered (Opened left)
+    → left ≡ s .n - (activeEstimate s (λ f. places seeds row) (turned s st t) bank + 1)
+
+-- ---- what memory is never refused
 
 -- No call of a list after set-up is refused with 6 or 7.
 abbrev pub NeverMemory : Policy → Type 0
@@ -300,6 +322,8 @@ pub record Theorems : Type 0 where
   pub sameReplies : (p : Policy) → UsedFlying p → SameReplies p
   pub neverMemory : (p : Policy) → NeverMemory p
   pub firstOpened : (p : Policy) → Regular p → FirstOpened p
+  pub leftAfter : LeftAfter
+  pub leftOfOpened : (p : Policy) → LeftOfOpened p
   pub stepFits : (p : Policy) → Regular p → StepFits p
   pub runFits : (p : Policy) → Regular p → RunFits p
   pub rounds : Rounds

@@ -7,6 +7,8 @@ use lib.ListN.{getD, set}
 use Rattle.rules.specs.declared.Setting.{Setting}
 use Rattle.rules.specs.declared.Head.{Head}
 use Rattle.rules.specs.declared.Cause.the-variants.{Bank, Rank, Row}
+use Rattle.rules.specs.declared.Decision.{Decision}
+use Rattle.rules.specs.declared.Decision.the-variants.{Open, Hold, OverQuota}
 use Rattle.rules.specs.declared.Answer.{Answer}
 use Rattle.rules.specs.declared.Answer.the-variants.{Opened, Wait, Quota}
 use Rattle.rules.specs.Cells.{leastFrom}
@@ -35,7 +37,7 @@ bankRule s st bank = passed (s .trc) (getD (st .head .bank) bank 0) (st .head .l
 abbrev pub rankRule : Setting → State → Bool
 rankRule s st = passed (s .tfaw) (getD (st .head .rank) 3 0) (st .head .last)
 
--- the estimate of a row in the active filter; at f gives the row's places in filter f
+-- the estimate of a row, as the active filter reports it; at f gives the row's places in filter f
 abbrev pub activeEstimate : Setting → (ℕ → List ℕ) → State → ℕ → ℕ
 activeEstimate s at st bank =
     estimate (st .counters) bank (activeFilter s (st .head .last)) (at (activeFilter s (st .head .last)))
@@ -56,14 +58,14 @@ unfoldable pub waitTick : Setting → (ℕ → List ℕ) → State → ℕ → �
 waitTick s at st bank row = leastFrom (passesAt s at st bank row) (st .head .last) (s .trc + s .tfaw + s .td)
 
 -- "The first rule that fails names the cause. If all pass: opened."
-abbrev pub firstFailing : Bool → Bool → Bool → Bool → ℕ → Answer
-firstFailing false bank rank row u = Quota
-firstFailing true false rank row u = Wait Bank u
-firstFailing true true false row u = Wait Rank u
-firstFailing true true true false u = Wait Row u
-firstFailing true true true true u = Opened
+abbrev pub firstFailing : Bool → Bool → Bool → Bool → ℕ → Decision
+firstFailing false bank rank row u = OverQuota
+firstFailing true false rank row u = Hold Bank u
+firstFailing true true false row u = Hold Rank u
+firstFailing true true true false u = Hold Row u
+firstFailing true true true true u = Open
 
-unfoldable pub decide : Policy → Setting → (ℕ → List ℕ) → State → ℕ → ℕ → ℕ → Answer
+unfoldable pub decide : Policy → Setting → (ℕ → List ℕ) → State → ℕ → ℕ → ℕ → Decision
 decide p s at st bank thread row =
     firstFailing (quotaRule p s st bank thread) (bankRule s st bank) (rankRule s st) (rowRule s at st bank row) (waitTick s at st bank row)
 
@@ -94,3 +96,20 @@ activated s at st bank thread row =
       rows = set (st .rows) (st .head .next) (rowWord bank row);
       threads = activatedThreads s (st .threads) bank thread (blacklisted (s .n) (activeEstimate s at st bank));
     }
+
+-- "N minus the estimate after the opening, never below 0" (document 02, e), of the state after the activation: a difference of natural
+-- numbers is never below 0.
+abbrev pub openingsLeft : Setting → (ℕ → List ℕ) → State → ℕ → ℕ
+openingsLeft s at st bank = s .n - activeEstimate s at st bank
+
+-- whether a decision opens the row
+abbrev pub opens : Decision → Bool
+opens Open = true
+opens (Hold c u) = false
+opens OverQuota = false
+
+-- the answer to a request with this decision, with the openings left where it opens the row
+abbrev pub answerOf : Decision → ℕ → Answer
+answerOf Open left = Opened left
+answerOf (Hold c u) left = Wait c u
+answerOf OverQuota left = Quota

@@ -52,9 +52,16 @@ pub enum Cause {
     Row,
 }
 
-// The decision on a request.
+// The decision on a request, before it is carried out: document 01's opened, wait and quota.
+pub enum Decision {
+    Open,
+    Hold { cause: Cause, until: u64 },
+    OverQuota,
+}
+
+// The answer to a request. An opened one has the openings left: N less the estimate after the opening.
 pub enum Answer {
-    Opened,
+    Opened { left: u64 },
     Wait { cause: Cause, until: u64 },
     Quota,
 }

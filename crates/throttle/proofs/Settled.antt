@@ -8,17 +8,18 @@ use lib.ListN.{length, getD}
 use Rattle.rules.specs.declared.Limits.{Limits}
 use Rattle.rules.specs.declared.Setting.{Setting}
 use Rattle.rules.specs.declared.Head.{Head}
+use Rattle.rules.specs.declared.Decision.{Decision}
+use Rattle.rules.specs.declared.Decision.the-variants.{Open, Hold, OverQuota}
 use Rattle.rules.specs.declared.Answer.{Answer}
-use Rattle.rules.specs.declared.Answer.the-variants.{Opened, Wait, Quota}
-use Rattle.rules.specs.Answers.{Refusal, refusalNumber, answerNumber, answerWait}
+use Rattle.rules.specs.Answers.{Refusal, refusalNumber, answerNumber, answerWait, answerLeft}
 use Rattle.rules.specs.Setting.{indexScale}
 use Rattle.rules.specs.State.{State, countersUsed, threadsUsed, headOf, headWords, fresh}
 use Rattle.rules.specs.Clock.{epoch, activeFilter, turnedCounters, turnedThreads, movedHead, turned}
 use Rattle.rules.specs.Hash.{places}
 use Rattle.rules.specs.Quota.{indexCounter}
 use Rattle.rules.specs.Policy.{limits01, narrow}
-use Rattle.rules.specs.Decision.{decide, activated}
-use Rattle.rules.specs.Calls.{request, done, index, Reply, refused, answered, finished, shown, afterAnswer, Outcome, outcome, oneLess, setup, setupRefusal, callRefusal, doneRefusal, unlessRefused, requested, reported, indexShown, step}
+use Rattle.rules.specs.Decision.{decide, activated, answerOf}
+use Rattle.rules.specs.Calls.{request, done, index, Reply, refused, answered, finished, shown, afterDecision, Outcome, outcome, oneLess, setup, setupRefusal, callRefusal, doneRefusal, unlessRefused, requested, reported, indexShown, step}
 use Rattle.rules.proofs.Cells.{getD-cells}
 use Rattle.rules.proofs.Step.{unless-taken, unless-refused}
 use Rattle.refusal.specs.Tests.{lentTest, callTest, doneTest}
@@ -97,18 +98,18 @@ module _ (s : Setting) (seeds words counters ticks rows threads : List ℕ) wher
       let at : ℕ → List ℕ = λ f. places seeds row in
       let moved = turned s before tick in
       moved-alone (headOf words) (z .head) tick
-      (ap (λ o. o .state .head) e ∙ go (decide narrow s at moved bank thread row) (λ k. n (ap (λ o. numberOf (o .reply)) e ∙ k)))
+      (ap (λ o. o .state .head) e ∙ go (decide narrow s at moved bank thread row) _ (λ k. n (ap (λ o. numberOf (o .reply)) e ∙ k)))
     where
-      go : (d : Answer) → answerNumber d ≢ 0
-          → afterAnswer d (turned s before tick) (activated s (λ f. places seeds row) (turned s before tick) bank thread row) .head ≡ movedHead (headOf words) tick
-      go Opened k = absurd (k refl)
-      go (Wait c u) k = refl
-      go Quota k = refl
+      go : (d : Decision) (left : ℕ) → answerNumber (answerOf d left) ≢ 0
+          → afterDecision d (turned s before tick) (activated s (λ f. places seeds row) (turned s before tick) bank thread row) .head ≡ movedHead (headOf words) tick
+      go Open left k = absurd (k refl)
+      go (Hold c u) left k = refl
+      go OverQuota left k = refl
 
   -- a request that is not refused
   pub left-request : (tick bank thread row : ℕ) (out : List ℕ) → refusalNumber (callRefusal limits01 s seeds before tick bank thread) ≡ 0
       → (a : Answer) (z : State) → outcome (answered a) z ≡ requested narrow s (λ f. places seeds row) (turned s before tick) bank thread row
-      → left 0 (answerNumber a ∷ answerWait a ∷ []) (headWords (z .head)) (z .counters) (z .ticks) (z .rows) (z .threads)
+      → left 0 (answerNumber a ∷ answerWait a ∷ answerLeft a ∷ []) (headWords (z .head)) (z .counters) (z .ticks) (z .rows) (z .threads)
       ≡ leaves (step narrow s seeds before (request tick bank thread row)) out words
   unfolding leaves step
   left-request tick bank thread row out e a z ez =

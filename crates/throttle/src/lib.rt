@@ -1,5 +1,6 @@
 // The throttle: set-up, request, done and index for C, proved against the rules. Every call returns 0 when it answered, and else
 // the number of its refusal; a refused call changes nothing that was lent. Of buffers that overlap nothing is promised.
+use answers::answer_left;
 use refusal::call_refusal;
 use refusal::done_refusal;
 use refusal::lent_refusal;
@@ -16,11 +17,11 @@ ghost use Rattle.rules.specs.Calls.{request, done, index, setup, step};
 ghost use Rattle.interface.specs.Left.{left, found, leaves};
 
 // For callers in Rattle that own their memory: set-up, request and done without the test of the whole history, and the numbers of an answer.
+pub use answers::answer_number;
+pub use answers::answer_wait;
 pub use sound::done;
 pub use sound::request;
 pub use sound::setup;
-pub use words::answer_number;
-pub use words::answer_wait;
 
 // Set-up: clears the head and the used parts of the buffers.
 // It rules out: a set-up that refuses an accepted setting, clears half of the counters, or leaves stored ticks in the head.
@@ -55,7 +56,7 @@ pub extern "C" fn throttle_setup(
     0
 }
 
-// A request for a row: out gets the answer's number and the wait tick.
+// A request for a row: out gets the answer's number, the wait tick and the openings left.
 // It rules out: a throttle that holds all, opens all, never moves its state, or counts a row that waits.
 #[no_mangle]
 pub extern "C" fn throttle_request(
@@ -70,7 +71,7 @@ pub extern "C" fn throttle_request(
     bank: u64,
     thread: u64,
     row: u16,
-    out: &mut [u64; 2],
+    out: &mut [u64; 3],
 ) -> u32
     ensures { λ r. ⌜ left r (now (out .exit)) (now (head .exit)) (now (counters .exit)) (now (ticks .exit)) (now (rows .exit)) (now (threads .exit)) ≡ leaves (step narrow (settingOf (now (setting .entry))) (now (seeds .entry)) (found (now (head .entry)) (now (counters .entry)) (now (ticks .entry)) (now (rows .entry)) (now (threads .entry))) (request tick bank thread row)) (now (out .entry)) (now (head .entry)) ⌝ }
 {
@@ -109,7 +110,10 @@ pub extern "C" fn throttle_request(
     let answer = d.answer;
     let after = d.head;
     store_answered(answer, after, head);
-    *out = [answer_number(answer), answer_wait(answer)];
+    let number = answer_number(answer);
+    let wait = answer_wait(answer);
+    let openings = answer_left(answer);
+    *out = [number, wait, openings];
     0
 }
 

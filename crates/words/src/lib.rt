@@ -1,12 +1,12 @@
-// How the head lies in the caller's 22 words, and the numbers of the answers.
+// How the head lies in the caller's 22 words.
+use answers::answer_number;
 use rules::Answer;
-use rules::Cause;
 use rules::Head;
 ghost use mathlib.Core.Path.{_≡_};
 ghost use mathlib.Core.Logic.{_≢_};
 ghost use Rattle.rules.specs.State.{headOf, headWords};
 ghost use Rattle.rules.specs.Clock.{movedHead};
-ghost use Rattle.rules.specs.Answers.{causeNumber, answerNumber, answerWait};
+ghost use Rattle.rules.specs.Answers.{answerNumber};
 
 // The head that the 22 words of the caller hold.
 pub fn load_head(words: &[u64; 22]) -> Head
@@ -98,38 +98,6 @@ pub fn store_clock(h: Head, words: &mut [u64; 22])
         words[20],
         words[21],
     ];
-}
-
-fn cause_number(c: Cause) -> u64
-    ensures { λ r. ⌜ r ≡ causeNumber c ⌝ }
-{
-    match c {
-        Cause::Bank => 1,
-        Cause::Rank => 2,
-        Cause::Row => 3,
-    }
-}
-
-// The number of an answer, as in a log.
-pub fn answer_number(a: Answer) -> u64
-    ensures { λ r. ⌜ r ≡ answerNumber a ⌝ }
-{
-    match a {
-        Answer::Opened => 0,
-        Answer::Wait { cause, until: _ } => cause_number(cause),
-        Answer::Quota => 4,
-    }
-}
-
-// The wait tick of an answer, 0 for opened and quota.
-pub fn answer_wait(a: Answer) -> u64
-    ensures { λ r. ⌜ r ≡ answerWait a ⌝ }
-{
-    match a {
-        Answer::Opened => 0,
-        Answer::Wait { cause: _, until } => until,
-        Answer::Quota => 0,
-    }
 }
 
 // Stores the head after an answer: all of it where the row is opened, else the clock, which alone has moved.

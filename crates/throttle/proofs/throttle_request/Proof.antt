@@ -118,6 +118,9 @@ answer-number-requires c κs = search needs
 answer-wait-requires : tie.Need-answer-wait-requires
 answer-wait-requires c κs = search needs
 
+answer-left-requires : tie.Need-answer-left-requires
+answer-left-requires c κs = search needs
+
 same-length-2 : tie.Need-same-length-2
 same-length-2 c = search needs
 
@@ -132,10 +135,11 @@ same-length-5 c = search needs
 
 returns-2 : tie.Need-returns-2
 returns-2 c =
-    let at = (c .before .before .before .before .before .before .before .before .before .before .before .before .before .before) in
+    let told = (c .before .before .before .before) in
+    let at = (told .before .before .before .before .before .before .before .before .before .before .before) in
     let start = begun (passed at) in
     let a = start .args in
-    rw (c .before .before .before .store-answered .ensures, c .before .before .answer-number .ensures, c .before .answer-wait .ensures)
+    rw (told .store-answered .ensures, c .before .before .before .answer-number .ensures, c .before .before .answer-wait .ensures, c .before .answer-left .ensures)
     (left-request (s start) (a .seeds .now) (a .head .now) (a .counters .now) (a .ticks .now) (a .rows .now) (a .threads .now)
     (a .tick) (a .bank) (a .thread) (a .row) (a .out .now) (ap refusalNumber (free (passed at))) (at .request .result .answer) (after at) (left-by at))
 
@@ -156,6 +160,7 @@ throttle-request-spec =
     store-answered-requires
     answer-number-requires
     answer-wait-requires
+    answer-left-requires
     same-length-2
     same-length-3
     same-length-4
