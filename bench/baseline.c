@@ -35,7 +35,7 @@ static int within(uint64_t x, uint64_t low, uint64_t high)
     return x >= low && x <= high;
 }
 
-static int fields_in_range(const uint64_t s[9])
+static int fields_in_range(const uint64_t s[THROTTLE_SETTING_WORDS])
 {
     return within(s[0], 2, 1u << 30) && s[0] % 2 == 0 && within(s[1], 1, 65535) &&
            within(s[2], 1, 65535) && within(s[3], 1, 32768) && within(s[4], 1, 1u << 29) &&
@@ -55,8 +55,8 @@ static int seeds_in_range(const uint16_t *seeds, size_t len)
 }
 
 /* Refusals 1 to 5; r is filled in where there is none. Numbers in range fit 32 bits. */
-static uint32_t setting_refusal(const uint64_t s[9], const uint16_t *seeds, size_t seeds_len,
-                                struct rules *r)
+static uint32_t setting_refusal(const uint64_t s[THROTTLE_SETTING_WORDS], const uint16_t *seeds,
+                                size_t seeds_len, struct rules *r)
 {
     if (!fields_in_range(s) || !seeds_in_range(seeds, seeds_len))
         return 1;
@@ -106,7 +106,8 @@ static uint64_t distances(const uint64_t *x, size_t n, uint64_t last)
  * distances are below 2^62, none of these is after the last; else they are
  * compared.
  */
-static int memory_unsound(const struct rules *r, const uint64_t head[22], const uint64_t *ticks)
+static int memory_unsound(const struct rules *r, const uint64_t head[THROTTLE_HEAD_CELLS],
+                          const uint64_t *ticks)
 {
     uint64_t last = head[0];
     if (head[1] >= r->history)
@@ -157,8 +158,8 @@ static void clear_filters(const struct rules *r, uint16_t *counters, uint32_t *t
 }
 
 /* Moves the clock to the tick, clears what its epoch asks for, and returns that epoch. */
-static uint64_t move_clock(const struct rules *r, uint64_t head[22], uint16_t *counters,
-                           uint32_t *threads, uint64_t tick)
+static uint64_t move_clock(const struct rules *r, uint64_t head[THROTTLE_HEAD_CELLS],
+                           uint16_t *counters, uint32_t *threads, uint64_t tick)
 {
     uint64_t old = head[0] / r->epoch, now = old;
     head[0] = tick;
@@ -208,15 +209,28 @@ static uint32_t estimate(const uint16_t *filter, const uint16_t places[4])
     return least;
 }
 
-/* Adds 1 to each distinct counter of the row below n: all are read before one is written. */
-static void count_row(uint16_t *filter, const uint16_t places[4], uint32_t n)
+static uint32_t lesser(uint32_t a, uint32_t b)
+{
+    return a < b ? a : b;
+}
+
+/*
+ * Adds 1 to each distinct counter of the row below n: all are read before one is
+ * written. Returns the least of them afterwards.
+ */
+static uint32_t count_row(uint16_t *filter, const uint16_t places[4], uint32_t n)
 {
     uint32_t a = filter[places[0]], b = filter[places[1]];
     uint32_t c = filter[places[2]], d = filter[places[3]];
-    filter[places[0]] = (uint16_t)(a + (a < n));
-    filter[places[1]] = (uint16_t)(b + (b < n));
-    filter[places[2]] = (uint16_t)(c + (c < n));
-    filter[places[3]] = (uint16_t)(d + (d < n));
+    a += a < n;
+    b += b < n;
+    c += c < n;
+    d += d < n;
+    filter[places[0]] = (uint16_t)a;
+    filter[places[1]] = (uint16_t)b;
+    filter[places[2]] = (uint16_t)c;
+    filter[places[3]] = (uint16_t)d;
+    return lesser(lesser(a, b), lesser(c, d));
 }
 
 /*
@@ -224,8 +238,8 @@ static void count_row(uint16_t *filter, const uint16_t places[4], uint32_t n)
  * is under tD ticks old. Newest first; the ticks never rise that way, so the
  * first one that is too old ends the search, and so does an empty place.
  */
-static uint64_t free_tick(const struct rules *r, const uint64_t head[22], const uint64_t *ticks,
-                          const uint32_t *rows, uint32_t word)
+static uint64_t free_tick(const struct rules *r, const uint64_t head[THROTTLE_HEAD_CELLS],
+                          const uint64_t *ticks, const uint32_t *rows, uint32_t word)
 {
     uint64_t now = head[0] + 1, old = now > r->td ? now - r->td : 0;
     size_t place = head[1];
@@ -250,9 +264,9 @@ static uint64_t free_tick(const struct rules *r, const uint64_t head[22], const 
  * blacklisted in this epoch and in the next. A row is free before the epoch
  * after the next begins, since tD is at most an epoch.
  */
-static uint64_t wait_tick(const struct rules *r, const uint64_t head[22], const uint64_t *ticks,
-                          const uint32_t *rows, uint32_t word, uint64_t epoch, uint64_t ready,
-                          int black, int black_next)
+static uint64_t wait_tick(const struct rules *r, const uint64_t head[THROTTLE_HEAD_CELLS],
+                          const uint64_t *ticks, const uint32_t *rows, uint32_t word,
+                          uint64_t epoch, uint64_t ready, int black, int black_next)
 {
     uint64_t turn = (epoch + 1) * r->epoch;
     if (ready < turn ? !black : !black_next)
@@ -289,10 +303,13 @@ static uint64_t in_flight(const struct rules *r, const uint32_t *threads, size_t
     return sum;
 }
 
-/* Writes an activation to head, history, filters and thread counters. */
-static void activate(const struct rules *r, uint64_t head[22], uint16_t *bank_counters,
-                     uint64_t *ticks, uint32_t *rows, uint32_t *cell, uint32_t word,
-                     const uint16_t places[4], int black)
+/*
+ * Writes an activation to head, history, filters and thread counters. Returns
+ * the openings left of the row by its counters in the active filter.
+ */
+static uint64_t activate(const struct rules *r, uint64_t head[THROTTLE_HEAD_CELLS],
+                         uint16_t *bank_counters, size_t active, uint64_t *ticks, uint32_t *rows,
+                         uint32_t *cell, uint32_t word, const uint16_t places[4], int black)
 {
     uint64_t stored = head[0] + 1;
     size_t place = head[1];
@@ -303,13 +320,14 @@ static void activate(const struct rules *r, uint64_t head[22], uint16_t *bank_co
     for (size_t k = 3; k > 0; k--)
         head[RANK_HEAD + k] = head[RANK_HEAD + k - 1];
     head[RANK_HEAD] = stored;
-    count_row(bank_counters, places, r->n);
-    count_row(bank_counters + FILTER, places, r->n);
+    uint32_t counted = count_row(bank_counters + active * FILTER, places, r->n);
+    count_row(bank_counters + (1 - active) * FILTER, places, r->n);
     cell[IN_FLIGHT]++;
     if (black) {
         cell[0] += cell[0] < r->scale;
         cell[1] += cell[1] < r->scale;
     }
+    return counted < r->n ? r->n - counted : 0;
 }
 
 /* The tick from which a stored tick no longer holds a request back, or 0 for none. */
@@ -326,7 +344,7 @@ uint32_t BASE_NAME(BASE_PREFIX, setup)(BASE_STATE)
         return refused;
     if (too_short(&r, counters_len, ticks_len, rows_len, threads_len))
         return 6;
-    memset(head, 0, 22 * sizeof *head);
+    memset(head, 0, THROTTLE_HEAD_CELLS * sizeof *head);
     memset(counters, 0, (size_t)r.banks * BANK_COUNTERS * sizeof *counters);
     memset(ticks, 0, r.history * sizeof *ticks);
     memset(rows, 0, r.history * sizeof *rows);
@@ -335,7 +353,8 @@ uint32_t BASE_NAME(BASE_PREFIX, setup)(BASE_STATE)
 }
 
 uint32_t BASE_NAME(BASE_PREFIX, request)(BASE_STATE, uint64_t tick, uint64_t bank, uint64_t thread,
-                                         uint16_t row, uint64_t out[2])
+                                         uint16_t row,
+                                         uint64_t out[THROTTLE_LEAST THROTTLE_REQUEST_OUT])
 {
     struct rules r;
     uint16_t places[4];
@@ -348,6 +367,7 @@ uint32_t BASE_NAME(BASE_PREFIX, request)(BASE_STATE, uint64_t tick, uint64_t ban
     if (in_flight(&r, threads, thread) >= quota(&r, cell[active])) {
         out[0] = 4;
         out[1] = 0;
+        out[2] = 0;
         return 0;
     }
     uint32_t word = (uint32_t)bank << 16 | row;
@@ -363,8 +383,9 @@ uint32_t BASE_NAME(BASE_PREFIX, request)(BASE_STATE, uint64_t tick, uint64_t ban
     uint64_t u = wait_tick(&r, head, ticks, rows, word, epoch, ready, black, black_next);
     out[0] = bank_free > tick ? 1 : rank_free > tick ? 2 : u > tick ? 3 : 0;
     out[1] = u > tick ? u : 0;
+    out[2] = 0;
     if (u == tick)
-        activate(&r, head, filters, ticks, rows, cell, word, places, black);
+        out[2] = activate(&r, head, filters, active, ticks, rows, cell, word, places, black);
     return 0;
 }
 
@@ -383,7 +404,7 @@ uint32_t BASE_NAME(BASE_PREFIX, done)(BASE_STATE, uint64_t tick, uint64_t bank, 
 }
 
 uint32_t BASE_NAME(BASE_PREFIX, index)(BASE_STATE, uint64_t tick, uint64_t bank, uint64_t thread,
-                                       uint64_t out[3])
+                                       uint64_t out[THROTTLE_LEAST THROTTLE_INDEX_OUT])
 {
     struct rules r;
     uint32_t refused = call_refusal(BASE_GIVEN, tick, bank, thread, &r);

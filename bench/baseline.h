@@ -11,13 +11,16 @@
 #ifndef BASELINE_H
 #define BASELINE_H
 
+#include "throttle.h"
+
 #include <stddef.h>
 #include <stdint.h>
 
 /* setting, seeds, head and the four buffers, which every call takes first */
-#define BASE_STATE                                                                         \
-    const uint64_t setting[9], const uint16_t *seeds, size_t seeds_len, uint64_t head[22], \
-        uint16_t *counters, size_t counters_len, uint64_t *ticks, size_t ticks_len,        \
+#define BASE_STATE                                                                          \
+    const uint64_t setting[THROTTLE_LEAST THROTTLE_SETTING_WORDS], const uint16_t *seeds,   \
+        size_t seeds_len, uint64_t head[THROTTLE_LEAST THROTTLE_HEAD_CELLS],                \
+        uint16_t *counters, size_t counters_len, uint64_t *ticks, size_t ticks_len,         \
         uint32_t *rows, size_t rows_len, uint32_t *threads, size_t threads_len
 
 /* the same, handed on to another function */
@@ -32,11 +35,13 @@
 #define BASE_DECLARE(prefix)                                                                   \
     uint32_t BASE_NAME(prefix, setup)(BASE_STATE);                                             \
     uint32_t BASE_NAME(prefix, request)(BASE_STATE, uint64_t tick, uint64_t bank,              \
-                                        uint64_t thread, uint16_t row, uint64_t out[2]);       \
+                                        uint64_t thread, uint16_t row,                         \
+                                        uint64_t out[THROTTLE_LEAST THROTTLE_REQUEST_OUT]);    \
     uint32_t BASE_NAME(prefix, done)(BASE_STATE, uint64_t tick, uint64_t bank,                 \
                                      uint64_t thread);                                         \
     uint32_t BASE_NAME(prefix, index)(BASE_STATE, uint64_t tick, uint64_t bank,                \
-                                      uint64_t thread, uint64_t out[3])
+                                      uint64_t thread,                                         \
+                                      uint64_t out[THROTTLE_LEAST THROTTLE_INDEX_OUT])
 
 /* history_alone.c: the test of the history, and a loop that only reads the cells */
 #define BASE_DECLARE_HISTORY(prefix)                                                         \

@@ -19,8 +19,9 @@ enum {
     MODULUS = 65521,
     RECORD = 24,
     RECORDS = 20,
-    SEEDS_AT = BODY + 9 * 4,
-    START_END = SEEDS_AT + 64 * 2
+    SEEDS_AT = BODY + THROTTLE_SETTING_WORDS * 4,
+    START_END = SEEDS_AT + THROTTLE_SEEDS * 2,
+    LOGGED = 2 /* words of out that a log has: answer and wait tick */
 };
 
 /* How far the log is judged. */
@@ -35,12 +36,12 @@ struct progress {
 enum { SOUND = 0, DIFFERS = 255 };
 
 static struct rules rules;
-static uint16_t seeds[64];
-static uint64_t head[22];
-static uint16_t counters[16 * BANK_COUNTERS];
-static uint64_t ticks[4096];
-static uint32_t rows[4096];
-static uint32_t threads[16 * 32 * 3];
+static uint16_t seeds[THROTTLE_SEEDS];
+static uint64_t head[THROTTLE_HEAD_CELLS];
+static uint16_t counters[THROTTLE_MOST_COUNTER_CELLS];
+static uint64_t ticks[THROTTLE_MOST_HISTORY_CELLS];
+static uint32_t rows[THROTTLE_MOST_HISTORY_CELLS];
+static uint32_t threads[THROTTLE_MOST_THREAD_CELLS];
 
 static uint16_t load16(const uint8_t *p)
 {
@@ -124,16 +125,16 @@ static uint32_t block_refusal(const uint8_t block[BLOCK], const struct progress 
 /* Block 0: the setting and the seeds. The model's memory is still all zeros, as after set-up. */
 static uint32_t start(const uint8_t block[BLOCK])
 {
-    uint64_t setting[9];
-    for (size_t k = 0; k < 9; k++)
+    uint64_t setting[THROTTLE_SETTING_WORDS];
+    for (size_t k = 0; k < THROTTLE_SETTING_WORDS; k++)
         setting[k] = load32(block + BODY + 4 * k);
-    for (size_t k = 0; k < 64; k++)
+    for (size_t k = 0; k < THROTTLE_SEEDS; k++)
         seeds[k] = load16(block + SEEDS_AT + 2 * k);
-    return setting_refusal(setting, seeds, 64, &rules);
+    return setting_refusal(setting, seeds, THROTTLE_SEEDS, &rules);
 }
 
 /* A request that is not refused: its answer and wait tick; moves the clock and may activate. */
-static void decide(uint64_t tick, size_t bank, size_t thread, uint16_t row, uint64_t out[2])
+static void decide(uint64_t tick, size_t bank, size_t thread, uint16_t row, uint64_t out[LOGGED])
 {
     uint16_t places[4];
     uint32_t *cell = threads + (bank * rules.threads + thread) * 3;
@@ -157,11 +158,11 @@ static void decide(uint64_t tick, size_t bank, size_t thread, uint16_t row, uint
     out[0] = bank_free > tick ? 1 : rank_free > tick ? 2 : u > tick ? 3 : 0;
     out[1] = u > tick ? u : 0;
     if (u == tick)
-        activate(&rules, head, filters, ticks, rows, cell, word, places, black);
+        activate(&rules, head, filters, active, ticks, rows, cell, word, places, black);
 }
 
 /* Refusals 8 to 10 of a record's call, or 0 and the model's answer and wait tick. */
-static uint32_t run_record(const uint8_t *record, uint64_t out[2])
+static uint32_t run_record(const uint8_t *record, uint64_t out[LOGGED])
 {
     uint64_t tick = load64(record);
     size_t bank = record[18], thread = record[19];
@@ -187,7 +188,7 @@ static uint32_t run_record(const uint8_t *record, uint64_t out[2])
 static uint32_t judge_records(const uint8_t block[BLOCK], struct progress *p, uint32_t *place)
 {
     const uint8_t *record = block + BODY;
-    uint64_t out[2];
+    uint64_t out[LOGGED];
     for (*place = 1; *place <= block[4]; ++*place, record += RECORD) {
         uint32_t refused = run_record(record, out);
         if (refused != 0)

@@ -15,9 +15,11 @@ BASE_DECLARE(native_compares);
 /* One of the implementations. */
 struct build {
     uint32_t (*setup)(BASE_STATE);
-    uint32_t (*request)(BASE_STATE, uint64_t, uint64_t, uint64_t, uint16_t, uint64_t[2]);
+    uint32_t (*request)(BASE_STATE, uint64_t, uint64_t, uint64_t, uint16_t,
+                        uint64_t[THROTTLE_LEAST THROTTLE_REQUEST_OUT]);
     uint32_t (*done)(BASE_STATE, uint64_t, uint64_t, uint64_t);
-    uint32_t (*index)(BASE_STATE, uint64_t, uint64_t, uint64_t, uint64_t[3]);
+    uint32_t (*index)(BASE_STATE, uint64_t, uint64_t, uint64_t,
+                      uint64_t[THROTTLE_LEAST THROTTLE_INDEX_OUT]);
 };
 
 #define BUILD(prefix) {prefix##_setup, prefix##_request, prefix##_done, prefix##_index}
@@ -127,10 +129,12 @@ static void compare_memories(void)
             fail("memory differs");
 }
 
+/* The words of out hold a pattern that shows where one is not written. */
 void call_all(const struct call *c, struct reply *r)
 {
     for (size_t b = 0; b < BUILDS; b++) {
-        struct reply other = {0, {0, 0, 0}};
+        struct reply other;
+        memset(&other, 0x5a, sizeof other);
         run_call(&builds[b], &memories[b], c, &other);
         if (b == 0)
             *r = other;
@@ -170,12 +174,12 @@ void end_piece(size_t class)
 static double time_piece(const struct build *b, struct memory *m, const struct piece *p,
                          uint64_t *sum)
 {
-    struct reply r = {0, {0, 0, 0}};
+    struct reply r = {0, {0}};
     uint64_t s = *sum;
     double begin = nanoseconds();
     for (size_t i = p->first; i < p->end; i++) {
         run_call(b, m, &calls[i], &r);
-        s = s * 31 + r.code + r.out[0] + r.out[1];
+        s = s * 31 + r.code + r.out[0] + r.out[1] + r.out[2];
     }
     double end = nanoseconds();
     *sum = s;

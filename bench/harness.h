@@ -19,6 +19,11 @@ enum { LIBRARY, O3_DIFFERENCES, O3_COMPARES, NATIVE_DIFFERENCES, NATIVE_COMPARES
 
 enum { MOST_CALLS = 262144, MOST_PIECES = 256, MOST_CLASSES = 8 };
 
+/* The words of the longest out. */
+enum {
+    MOST_OUT = THROTTLE_REQUEST_OUT > THROTTLE_INDEX_OUT ? THROTTLE_REQUEST_OUT : THROTTLE_INDEX_OUT
+};
+
 enum kind { REQUEST, DONE, INDEX, SETUP };
 
 /* A call of a list. */
@@ -33,7 +38,7 @@ struct call {
 /* What a call gave back. */
 struct reply {
     uint64_t code;
-    uint64_t out[3];
+    uint64_t out[MOST_OUT];
 };
 
 /* The fields in which the settings of the measurements differ. */
@@ -50,7 +55,7 @@ struct times {
     double ns[BUILDS];
 };
 
-/* The setting in use, as nine words. */
+/* The setting in use, as words. */
 extern const uint64_t *setting;
 
 _Noreturn void fail(const char *what);

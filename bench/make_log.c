@@ -37,7 +37,7 @@ static const struct kind kinds[] = {
 /* A record of the log. */
 struct record {
     uint64_t tick;
-    uint64_t out[2]; /* answer and wait tick */
+    uint64_t out[THROTTLE_REQUEST_OUT]; /* of which answer and wait tick are written */
     uint16_t row;
     uint8_t bank;
     uint8_t thread;
@@ -151,7 +151,7 @@ static struct record choose(const struct loop *l)
     }
     const struct thread *t = &l->threads[best];
     struct record c = {
-        t->ready < l->now ? l->now : t->ready, {0, 0}, t->row, t->bank, (uint8_t)best, REQUEST};
+        t->ready < l->now ? l->now : t->ready, {0}, t->row, t->bank, (uint8_t)best, REQUEST};
     const struct record *flight = &l->flights[l->first % FLIGHTS];
     if (l->first != l->last && flight->tick <= c.tick)
         return *flight;
@@ -181,7 +181,7 @@ static void follow(struct loop *l, const struct record *c)
         if (l->last - l->first == FLIGHTS)
             fail("too many in flight");
         l->flights[l->last++ % FLIGHTS] =
-            (struct record){c->tick + SERVICE, {0, 0}, 0, c->bank, c->thread, DONE};
+            (struct record){c->tick + SERVICE, {0}, 0, c->bank, c->thread, DONE};
         l->turn = c->thread + 1u;
         next_request(l, c->thread);
     } else if (c->out[0] != THROTTLE_QUOTA && c->out[1] < c->tick + POLL) {

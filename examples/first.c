@@ -20,11 +20,13 @@ static uint32_t threads[THROTTLE_MOST_THREAD_CELLS];
 
 static void request(uint64_t tick)
 {
-    uint64_t out[2];
+    uint64_t out[THROTTLE_REQUEST_OUT];
     uint32_t code = throttle_request(STATE, tick, 0, 0, 5, out);
     printf("request at %" PRIu64 ": ", tick);
     if (code != THROTTLE_ANSWERED)
         printf("refused with %" PRIu32 ", %s\n", code, throttle_refusal_name(code));
+    else if (out[0] == THROTTLE_OPENED)
+        printf("%s, %" PRIu64 " left\n", throttle_answer_name(out[0]), out[2]);
     else if (out[1] != 0)
         printf("%s until %" PRIu64 "\n", throttle_answer_name(out[0]), out[1]);
     else
@@ -33,7 +35,7 @@ static void request(uint64_t tick)
 
 static void read_index(uint64_t tick)
 {
-    uint64_t out[3];
+    uint64_t out[THROTTLE_INDEX_OUT];
     if (throttle_index(STATE, tick, 0, 0, out) == THROTTLE_ANSWERED)
         printf("index at %" PRIu64 ": c %" PRIu64 ", D %" PRIu64 ", quota %" PRIu64 "\n", tick, out[0],
                out[1], out[2]);

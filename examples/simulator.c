@@ -13,8 +13,9 @@
  * tick and none before tRC ticks after the thread's last activation. A request
  * that has to wait is made again at the tick that the throttle names. An
  * activation takes SERVICE ticks and is then reported done. At the end the
- * program prints how often each answer came, and the most activations of one
- * row in any W ticks beside the limit L.
+ * program prints how often each answer came, the most activations of one row in
+ * any W ticks beside the limit L, and how many openings that row had left when it
+ * was first held, that is, had to wait for the row rule.
  */
 #include "throttle.h"
 
@@ -24,7 +25,7 @@
 #include <stdlib.h>
 #include <string.h>
 
-enum { SERVICE = 200, MOST_THREADS = 32 };
+enum { SERVICE = 200, MOST_THREADS = 32, ROWS = 16 * 65536 };
 
 /* A request of the trace; next is the place of the same thread's next one. */
 struct entry {
@@ -68,7 +69,9 @@ struct rank {
 /*
  * The controller: each thread's next request and when it is made; the thread
  * that comes first among equals; all activations, of which those from done on
- * are in flight.
+ * are in flight. Of each row, by bank x 65,536 + row: the openings left at its
+ * last activation before it was first held, and the tick at which it was held,
+ * plus one, 0 for never.
  */
 struct controller {
     struct rank rank;
@@ -79,6 +82,7 @@ struct controller {
     size_t opens, done;
     uint64_t now;
     uint64_t answers[5];
+    uint64_t left[ROWS], held[ROWS];
 };
 
 static void stop(const char *what)
@@ -235,6 +239,15 @@ static uint64_t after_quota(const struct controller *c, size_t thread)
     return turn;
 }
 
+/* Notes the openings left of a row that was not held yet, or that it is held now. */
+static void note_answer(struct controller *c, uint32_t row, const uint64_t *out)
+{
+    if (c->held[row] == 0 && out[0] == THROTTLE_OPENED)
+        c->left[row] = out[2];
+    else if (c->held[row] == 0 && out[0] == THROTTLE_WAIT_ROW)
+        c->held[row] = c->now + 1;
+}
+
 /* Makes the thread's next request and does as the throttle says. */
 static void make_request(struct controller *c, const struct trace *t, size_t thread)
 {
@@ -245,10 +258,11 @@ static void make_request(struct controller *c, const struct trace *t, size_t thr
     uint32_t code = throttle_request(STATE(&c->rank), c->now, e->bank, e->thread, e->row, out);
     if (code != THROTTLE_ANSWERED)
         stop_refused("request", code);
+    uint32_t row = (uint32_t)e->bank << 16 | e->row;
+    note_answer(c, row, out);
     c->answers[out[0]]++;
     if (out[0] == THROTTLE_OPENED) {
-        c->opened[c->opens++] =
-            (struct activation){c->now, e->thread, (uint32_t)e->bank << 16 | e->row};
+        c->opened[c->opens++] = (struct activation){c->now, e->thread, row};
         c->next[thread] = e->next;
         c->turn = thread + 1;
         c->ready[thread] = c->now + c->rank.setting.trc;
@@ -300,6 +314,15 @@ static int by_row_then_tick(const void *x, const void *y)
     return a->tick < b->tick ? -1 : a->tick > b->tick;
 }
 
+static void report_row(const struct controller *c, uint32_t row)
+{
+    if (c->held[row] == 0)
+        printf("that row was never held; openings left: %" PRIu64 "\n", c->left[row]);
+    else
+        printf("that row was first held at tick %" PRIu64 "; openings left: %" PRIu64 "\n",
+               c->held[row] - 1, c->left[row]);
+}
+
 static void report(struct controller *c)
 {
     const struct throttle_setting *s = &c->rank.setting;
@@ -317,10 +340,13 @@ static void report(struct controller *c)
             last = i;
         }
     }
-    if (most > 0)
+    if (most > 0) {
+        uint32_t row = c->opened[last].row;
         printf("most activations of a row in %" PRIu64 " ticks: %zu (bank %" PRIu32 ", row %" PRIu32
                "), limit L: %" PRIu64 "\n",
-               s->w, most, c->opened[last].row >> 16, c->opened[last].row & 65535, s->l);
+               s->w, most, row >> 16, row & 65535, s->l);
+        report_row(c, row);
+    }
     if (most > s->l)
         stop("the limit is exceeded");
 }

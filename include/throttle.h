@@ -53,11 +53,22 @@ struct throttle_setting {
     uint64_t threads; /* 1 to 32 */
 };
 
+/*
+ * Lengths of the arrays that a program lends. Setting, head and out have no
+ * length argument, so the library cannot test them: write these names and not
+ * the numbers, which can grow where THROTTLE_VERSION_MAJOR does.
+ *
+ * In version 1 a request wrote two words to out, now it writes three. A program
+ * that was compiled with the header of version 1 must be compiled again, and
+ * one that lends an array of two words must be changed: the third word would be
+ * written past its end. gcc and clang warn of a short array in C where they see
+ * its length (THROTTLE_LEAST); C++ compilers do not.
+ */
 enum {
     THROTTLE_SETTING_WORDS = 9,
     THROTTLE_SEEDS = 64,     /* 16 for each of four hash functions, each 0 to 1,023 */
     THROTTLE_HEAD_CELLS = 22,
-    THROTTLE_REQUEST_OUT = 2,
+    THROTTLE_REQUEST_OUT = 3,
     THROTTLE_INDEX_OUT = 3,
     /* the most cells that an accepted setting uses */
     THROTTLE_MOST_COUNTER_CELLS = 32768,
@@ -70,7 +81,7 @@ enum {
  * writes them and returns words. Do it once, and again after a change of s.
  */
 static inline const uint64_t *throttle_words(const struct throttle_setting *s,
-                                             uint64_t words[THROTTLE_SETTING_WORDS])
+                                             uint64_t words[THROTTLE_LEAST THROTTLE_SETTING_WORDS])
 {
     words[0] = s->w;
     words[1] = s->trc;
@@ -92,7 +103,7 @@ static inline const uint64_t *throttle_words(const struct throttle_setting *s,
  * The limit L holds with any seeds. For a product take random seeds, each from
  * 0 to 1,023, and keep them secret.
  */
-static inline void throttle_house_seeds(uint16_t seeds[THROTTLE_SEEDS])
+static inline void throttle_house_seeds(uint16_t seeds[THROTTLE_LEAST THROTTLE_SEEDS])
 {
     for (unsigned f = 0; f < 4; f++)
         for (unsigned i = 0; i < 16; i++)
@@ -266,26 +277,37 @@ static inline uint32_t throttle_row(uint64_t number, uint16_t *out)
  * seeds: function by function, 16 each, that of bit 0 of the row first.
  */
 THROTTLE_CHECKED
-uint32_t throttle_setup(const uint64_t setting[9], const uint16_t *seeds, size_t seeds_len,
-                        uint64_t head[22], uint16_t *counters, size_t counters_len,
+uint32_t throttle_setup(const uint64_t setting[THROTTLE_LEAST THROTTLE_SETTING_WORDS],
+                        const uint16_t *seeds, size_t seeds_len,
+                        uint64_t head[THROTTLE_LEAST THROTTLE_HEAD_CELLS],
+                        uint16_t *counters, size_t counters_len,
                         uint64_t *ticks, size_t ticks_len, uint32_t *rows, size_t rows_len,
                         uint32_t *threads, size_t threads_len);
 
 /*
- * Asks to activate a row at a tick. out[0] is the answer.
+ * Asks to activate a row at a tick. out[0] is the answer, out[1] the wait tick,
+ * out[2] the openings left.
  *
  * 1, 2 and 3: out[1] is the least tick at which the rules of bank, rank and
  * row would all pass if no call came between; it is greater than tick. Ask
  * again then; the answer may be another wait if other requests were opened
- * in between, or quota.
+ * in between, or quota. out[2] is 0.
  *
- * 4: out[1] is 0. In flight is the thread's total over all banks, the quota is
- * that of the named one. There is no tick to wait for: ask again after a done
- * of this thread in any bank, or in the next epoch.
+ * 4: out[1] and out[2] are 0. In flight is the thread's total over all banks,
+ * the quota is that of the named one. There is no tick to wait for: ask again
+ * after a done of this thread in any bank, or in the next epoch.
  *
  * 0: out[1] is 0. The activation is counted, stands in the history and is in
  * flight until throttle_done. Nothing else adds to the state; a wait or a
- * quota answer only moves the clock.
+ * quota answer only moves the clock. out[2] is N less the row's estimate with
+ * this activation counted, or 0 if the estimate is above N. The estimate is the
+ * least of the row's four counters in the filter that the tick's epoch tests.
+ *
+ * Openings left say how far the row is from being blacklisted, and promise
+ * nothing about the next request. 0 left is not yet held: the row rule holds a
+ * blacklisted row only within tD ticks of its last activation. Other rows that
+ * share its counters can use the openings up. The turn of an epoch can raise
+ * them again, since the other filter is tested then.
  *
  * Every answered call moves the clock: the last tick becomes its tick. On
  * entering a new epoch (tick / E) the filter counters and index counters that
@@ -293,12 +315,14 @@ uint32_t throttle_setup(const uint64_t setting[9], const uint16_t *seeds, size_t
  * passed, all of them. In flight is not cleared.
  */
 THROTTLE_CHECKED
-uint32_t throttle_request(const uint64_t setting[9], const uint16_t *seeds, size_t seeds_len,
-                          uint64_t head[22], uint16_t *counters, size_t counters_len,
+uint32_t throttle_request(const uint64_t setting[THROTTLE_LEAST THROTTLE_SETTING_WORDS],
+                          const uint16_t *seeds, size_t seeds_len,
+                          uint64_t head[THROTTLE_LEAST THROTTLE_HEAD_CELLS],
+                          uint16_t *counters, size_t counters_len,
                           uint64_t *ticks, size_t ticks_len, uint32_t *rows, size_t rows_len,
                           uint32_t *threads, size_t threads_len,
                           uint64_t tick, uint64_t bank, uint64_t thread, uint16_t row,
-                          uint64_t out[2]);
+                          uint64_t out[THROTTLE_LEAST THROTTLE_REQUEST_OUT]);
 
 /*
  * Reports that one of the thread's activations in the bank is finished: moves
@@ -306,8 +330,10 @@ uint32_t throttle_request(const uint64_t setting[9], const uint16_t *seeds, size
  * total. It is refused with 10 if that bank has none, whatever the total.
  */
 THROTTLE_CHECKED
-uint32_t throttle_done(const uint64_t setting[9], const uint16_t *seeds, size_t seeds_len,
-                       uint64_t head[22], uint16_t *counters, size_t counters_len,
+uint32_t throttle_done(const uint64_t setting[THROTTLE_LEAST THROTTLE_SETTING_WORDS],
+                       const uint16_t *seeds, size_t seeds_len,
+                       uint64_t head[THROTTLE_LEAST THROTTLE_HEAD_CELLS],
+                       uint16_t *counters, size_t counters_len,
                        uint64_t *ticks, size_t ticks_len, uint32_t *rows, size_t rows_len,
                        uint32_t *threads, size_t threads_len,
                        uint64_t tick, uint64_t bank, uint64_t thread);
@@ -320,11 +346,14 @@ uint32_t throttle_done(const uint64_t setting[9], const uint16_t *seeds, size_t 
  * the even one.
  */
 THROTTLE_CHECKED
-uint32_t throttle_index(const uint64_t setting[9], const uint16_t *seeds, size_t seeds_len,
-                        uint64_t head[22], uint16_t *counters, size_t counters_len,
+uint32_t throttle_index(const uint64_t setting[THROTTLE_LEAST THROTTLE_SETTING_WORDS],
+                        const uint16_t *seeds, size_t seeds_len,
+                        uint64_t head[THROTTLE_LEAST THROTTLE_HEAD_CELLS],
+                        uint16_t *counters, size_t counters_len,
                         uint64_t *ticks, size_t ticks_len, uint32_t *rows, size_t rows_len,
                         uint32_t *threads, size_t threads_len,
-                        uint64_t tick, uint64_t bank, uint64_t thread, uint64_t out[3]);
+                        uint64_t tick, uint64_t bank, uint64_t thread,
+                        uint64_t out[THROTTLE_LEAST THROTTLE_INDEX_OUT]);
 
 #ifdef __cplusplus
 }

@@ -10,8 +10,7 @@
 #ifndef THROTTLE_LOG_H
 #define THROTTLE_LOG_H
 
-#include "throttle_checked.h"
-#include "throttle_version.h"
+#include "throttle.h"
 
 #include <stddef.h>
 #include <stdint.h>
@@ -31,8 +30,9 @@ enum {
  *   1  a field of more than 32 bits, or other than 64 seeds
  */
 THROTTLE_CHECKED
-uint32_t throttle_log_start(const uint64_t setting[9], const uint16_t *seeds, size_t seeds_len,
-                            uint8_t block[THROTTLE_LOG_BLOCK]);
+uint32_t throttle_log_start(const uint64_t setting[THROTTLE_LEAST THROTTLE_SETTING_WORDS],
+                            const uint16_t *seeds, size_t seeds_len,
+                            uint8_t block[THROTTLE_LEAST THROTTLE_LOG_BLOCK]);
 
 /*
  * Puts a record at a place from 0 to 19. kind is 0 for a request and 1 for a
@@ -40,8 +40,9 @@ uint32_t throttle_log_start(const uint64_t setting[9], const uint16_t *seeds, si
  *  13  a place above 19, a bank or thread above 255, a kind above 1, an answer above 4
  */
 THROTTLE_CHECKED
-uint32_t throttle_log_record(uint8_t block[THROTTLE_LOG_BLOCK], uint64_t place, uint64_t tick, uint64_t wait, uint16_t row,
-                             uint64_t bank, uint64_t thread, uint64_t kind, uint64_t answer);
+uint32_t throttle_log_record(uint8_t block[THROTTLE_LEAST THROTTLE_LOG_BLOCK], uint64_t place,
+                             uint64_t tick, uint64_t wait, uint16_t row, uint64_t bank,
+                             uint64_t thread, uint64_t kind, uint64_t answer);
 
 /*
  * Finishes a block of count records: its number, its count, zeros after the
@@ -49,7 +50,8 @@ uint32_t throttle_log_record(uint8_t block[THROTTLE_LOG_BLOCK], uint64_t place, 
  *  13  a number of 0 or of more than 32 bits, a count that is not 1 to 20
  */
 THROTTLE_CHECKED
-uint32_t throttle_log_seal(uint8_t block[THROTTLE_LOG_BLOCK], uint64_t number, uint64_t count);
+uint32_t throttle_log_seal(uint8_t block[THROTTLE_LEAST THROTTLE_LOG_BLOCK], uint64_t number,
+                           uint64_t count);
 
 #ifdef __cplusplus
 }

@@ -6,8 +6,7 @@
 #ifndef THROTTLE_PLAN_H
 #define THROTTLE_PLAN_H
 
-#include "throttle_checked.h"
-#include "throttle_version.h"
+#include "throttle.h"
 
 #include <stdint.h>
 
@@ -31,7 +30,8 @@ enum { THROTTLE_DELAYS_OUT = 2 };
  *   5  B > L with every delay from 1 to 2^29
  */
 THROTTLE_CHECKED
-uint32_t throttle_delays(const uint64_t setting[9], uint64_t out[THROTTLE_DELAYS_OUT]);
+uint32_t throttle_delays(const uint64_t setting[THROTTLE_LEAST THROTTLE_SETTING_WORDS],
+                         uint64_t out[THROTTLE_LEAST THROTTLE_DELAYS_OUT]);
 
 #ifdef __cplusplus
 }

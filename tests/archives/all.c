@@ -39,7 +39,7 @@ int main(int count, char **arguments)
     static uint64_t setting[THROTTLE_SETTING_WORDS], head[THROTTLE_HEAD_CELLS], ticks[8];
     static uint16_t seeds[THROTTLE_SEEDS], counters[2048];
     static uint32_t rows[8], threads[3];
-    uint64_t delays[THROTTLE_DELAYS_OUT] = {0, 0}, answer[THROTTLE_REQUEST_OUT] = {9, 9};
+    uint64_t delays[THROTTLE_DELAYS_OUT] = {0, 0}, answer[THROTTLE_REQUEST_OUT] = {9, 9, 9};
     uint8_t written[THROTTLE_LOG_BLOCK] = {0}, wanted[THROTTLE_LOG_BLOCK] = {0};
 
     throttle_house_seeds(seeds);
@@ -54,7 +54,8 @@ int main(int count, char **arguments)
     check(throttle_request(setting, seeds, 64, head, counters, 2048, ticks, 8, rows, 8, threads, 3, 0, 0, 0, 5,
                            answer) == THROTTLE_ANSWERED,
           "throttle_request refuses the first request");
-    check(answer[0] == THROTTLE_OPENED && answer[1] == 0, "throttle_request does not open the first row");
+    check(answer[0] == THROTTLE_OPENED && answer[1] == 0 && answer[2] == 1,
+          "throttle_request does not open the first row with 1 left");
 
     check(throttle_log_start(setting, seeds, 64, written) == 0, "throttle_log_start refuses the setting");
     check(count == 2 && first_block(arguments[1], wanted), "the sample log cannot be read");

@@ -7,7 +7,9 @@
 #include "throttle_log.h"
 #include "throttle_plan.h"
 
-static uint64_t setting[THROTTLE_SETTING_WORDS], head[THROTTLE_HEAD_CELLS], ticks[8], out[3];
+static uint64_t setting[THROTTLE_SETTING_WORDS], head[THROTTLE_HEAD_CELLS], ticks[8];
+static uint64_t out[THROTTLE_REQUEST_OUT], index_out[THROTTLE_INDEX_OUT];
+static uint64_t delays[THROTTLE_DELAYS_OUT];
 static uint16_t seeds[THROTTLE_SEEDS], counters[2048], row;
 static uint32_t rows[8], threads[3];
 static uint8_t block[THROTTLE_LOG_BLOCK];
@@ -27,7 +29,7 @@ int main(void)
     throttle_done(STATE, 0, 0, 0);
 #endif
 #ifdef IGNORE_throttle_index
-    throttle_index(STATE, 0, 0, 0, out);
+    throttle_index(STATE, 0, 0, 0, index_out);
 #endif
 #ifdef IGNORE_throttle_row
     throttle_row(70000, &row);
@@ -42,8 +44,9 @@ int main(void)
     throttle_log_seal(block, 1, 1);
 #endif
 #ifdef IGNORE_throttle_delays
-    throttle_delays(setting, out);
+    throttle_delays(setting, delays);
 #endif
     return throttle_setup(STATE) + throttle_request(STATE, 0, 0, 0, 5, out) + throttle_row(5, &row) +
+           throttle_index(STATE, 0, 0, 0, index_out) + throttle_delays(setting, delays) +
            throttle_log_seal(block, 1, 1) > 0;
 }

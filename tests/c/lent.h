@@ -24,8 +24,8 @@ struct lent {
     size_t rows_len;
     uint32_t *threads;
     size_t threads_len;
-    uint64_t *two;   /* out of a request */
-    uint64_t *three; /* out of an index reading */
+    uint64_t *out;   /* of a request */
+    uint64_t *index; /* out of an index reading */
 };
 
 /* A heap block that is not initialised. */
@@ -41,10 +41,10 @@ static inline void *block(size_t cells, size_t size)
 static inline struct lent lend(const struct throttle_setting *s)
 {
     struct lent m;
-    m.words = block(9, 8);
+    m.words = block(THROTTLE_SETTING_WORDS, 8);
     throttle_words(s, m.words);
-    m.seeds_len = 64;
-    m.seeds = block(64, 2);
+    m.seeds_len = THROTTLE_SEEDS;
+    m.seeds = block(THROTTLE_SEEDS, 2);
     throttle_house_seeds(m.seeds);
     m.head = block(THROTTLE_HEAD_CELLS, 8);
     m.counters_len = throttle_counter_cells(s);
@@ -54,8 +54,8 @@ static inline struct lent lend(const struct throttle_setting *s)
     m.rows = block(m.rows_len, 4);
     m.threads_len = throttle_thread_cells(s);
     m.threads = block(m.threads_len, 4);
-    m.two = block(THROTTLE_REQUEST_OUT, 8);
-    m.three = block(THROTTLE_INDEX_OUT, 8);
+    m.out = block(THROTTLE_REQUEST_OUT, 8);
+    m.index = block(THROTTLE_INDEX_OUT, 8);
     return m;
 }
 
@@ -68,8 +68,8 @@ static inline void give_back(struct lent *m)
     free(m->ticks);
     free(m->rows);
     free(m->threads);
-    free(m->two);
-    free(m->three);
+    free(m->out);
+    free(m->index);
 }
 
 /* A copy of the state, in memory as long as the setting uses. */
@@ -105,7 +105,7 @@ static inline uint32_t request(struct lent *m, uint64_t tick, uint64_t bank, uin
 {
     return throttle_request(m->words, m->seeds, m->seeds_len, m->head, m->counters,
                             m->counters_len, m->ticks, m->ticks_len, m->rows, m->rows_len,
-                            m->threads, m->threads_len, tick, bank, thread, row, m->two);
+                            m->threads, m->threads_len, tick, bank, thread, row, m->out);
 }
 
 static inline uint32_t done(struct lent *m, uint64_t tick, uint64_t bank, uint64_t thread)
@@ -119,7 +119,7 @@ static inline uint32_t reading(struct lent *m, uint64_t tick, uint64_t bank, uin
 {
     return throttle_index(m->words, m->seeds, m->seeds_len, m->head, m->counters, m->counters_len,
                           m->ticks, m->ticks_len, m->rows, m->rows_len, m->threads, m->threads_len,
-                          tick, bank, thread, m->three);
+                          tick, bank, thread, m->index);
 }
 
 #endif

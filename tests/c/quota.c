@@ -13,7 +13,7 @@ static const struct throttle_setting TWO = {40, 1, 4, 2, 6, 10, 1, 2, 2};
 /* A request of row 5 that is answered so, with wait tick 0. */
 static int answers(struct lent *m, uint64_t tick, uint64_t bank, uint64_t thread, uint64_t answer)
 {
-    return request(m, tick, bank, thread, 5) == 0 && m->two[0] == answer && m->two[1] == 0;
+    return request(m, tick, bank, thread, 5) == 0 && m->out[0] == answer && m->out[1] == 0;
 }
 
 /* The cell of a thread's requests in flight in a bank. */
@@ -40,7 +40,7 @@ static void quotas(void)
         m.words[6] = cases[i].q;
         CHECK(setup(&m) == 0);
         m.threads[0] = cases[i].c;
-        CHECK(reading(&m, 0, 0, 0) == 0 && m.three[2] == cases[i].quota);
+        CHECK(reading(&m, 0, 0, 0) == 0 && m.index[2] == cases[i].quota);
         m.threads[2] = (uint32_t)cases[i].quota;
         CHECK(answers(&m, 0, 0, 0, THROTTLE_QUOTA));
         m.threads[2]--;
@@ -93,8 +93,8 @@ static void quota_of_the_named_bank(void)
     CHECK(setup(&m) == 0);
     flying(&m, 0, 0)[-2] = 4;
     *flying(&m, 0, 0) = *flying(&m, 1, 0) = 1;
-    CHECK(reading(&m, 0, 0, 0) == 0 && m.three[0] == 4 && m.three[1] == 8 && m.three[2] == 2);
-    CHECK(reading(&m, 0, 1, 0) == 0 && m.three[0] == 0 && m.three[1] == 8 && m.three[2] == 4);
+    CHECK(reading(&m, 0, 0, 0) == 0 && m.index[0] == 4 && m.index[1] == 8 && m.index[2] == 2);
+    CHECK(reading(&m, 0, 1, 0) == 0 && m.index[0] == 0 && m.index[1] == 8 && m.index[2] == 4);
     CHECK(answers(&m, 0, 0, 0, THROTTLE_QUOTA));
     CHECK(answers(&m, 0, 1, 0, THROTTLE_OPENED));
     give_back(&m);

@@ -20,7 +20,10 @@ _Static_assert(_Generic(&throttle_setup, setup_type *: 1, default: 0), "type of 
 _Static_assert(_Generic(&throttle_request, request_type *: 1, default: 0), "type of request");
 _Static_assert(_Generic(&throttle_done, done_type *: 1, default: 0), "type of done");
 _Static_assert(_Generic(&throttle_index, index_type *: 1, default: 0), "type of index");
-_Static_assert(sizeof(struct throttle_setting) == 72, "nine words");
+_Static_assert(sizeof(struct throttle_setting) == THROTTLE_SETTING_WORDS * sizeof(uint64_t),
+               "a word for each field");
+_Static_assert(THROTTLE_SETTING_WORDS == 9 && THROTTLE_HEAD_CELLS == 22, "what is given");
+_Static_assert(THROTTLE_REQUEST_OUT == 3 && THROTTLE_INDEX_OUT == 3, "what is given back");
 
 static const struct throttle_setting S = {40, 1, 4, 2, 6, 10, 4, 1, 1};
 
@@ -35,7 +38,7 @@ static const uint64_t WIDE = UINT64_C(1) << 32;
 /* A request that is answered so. */
 static int answers(struct lent *m, uint64_t tick, uint64_t answer, uint64_t wait)
 {
-    return request(m, tick, 0, 0, 5) == 0 && m->two[0] == answer && m->two[1] == wait;
+    return request(m, tick, 0, 0, 5) == 0 && m->out[0] == answer && m->out[1] == wait;
 }
 
 static int opened_and_done(struct lent *m, uint64_t tick)
@@ -46,7 +49,7 @@ static int opened_and_done(struct lent *m, uint64_t tick)
 /* The sizes and the order of the words. */
 static void sizes(void)
 {
-    uint64_t words[9];
+    uint64_t words[THROTTLE_SETTING_WORDS];
     CHECK(throttle_counter_cells(&NINE) == 3 * 2048);
     CHECK(throttle_history_cells(&NINE) == 52);
     CHECK(throttle_thread_cells(&NINE) == 3 * 6 * 3);
@@ -122,7 +125,7 @@ static void samples(void)
     CHECK(answers(&m, 7, THROTTLE_OPENED, 0));
     CHECK(answers(&m, 8, THROTTLE_WAIT_ROW, 13));
     CHECK(reading(&m, 8, 0, 0) == 0);
-    CHECK(m.three[0] == 1 && m.three[1] == 8 && m.three[2] == 4);
+    CHECK(m.index[0] == 1 && m.index[1] == 8 && m.index[2] == 4);
     CHECK(request(&m, 7, 0, 0, 5) == THROTTLE_BAD_TICK);
 
     CHECK(setup(&m) == 0);
@@ -138,9 +141,9 @@ static void samples(void)
     CHECK(request(&m, 5, 0, 0, 5) == THROTTLE_BAD_TICK);
     CHECK(answers(&m, 6, THROTTLE_WAIT_BANK, 7));
     for (uint16_t row = 1; row < 4; row++)
-        CHECK(request(&m, 6 + row, 0, 0, row) == 0 && m.two[0] == THROTTLE_OPENED);
+        CHECK(request(&m, 6 + row, 0, 0, row) == 0 && m.out[0] == THROTTLE_OPENED);
     CHECK(done(&m, 9, 0, 0) == 0);
-    CHECK(request(&m, 9, 0, 0, 9) == 0 && m.two[0] == THROTTLE_WAIT_BANK && m.two[1] == 10);
+    CHECK(request(&m, 9, 0, 0, 9) == 0 && m.out[0] == THROTTLE_WAIT_BANK && m.out[1] == 10);
     give_back(&m);
 }
 
@@ -150,9 +153,9 @@ static void rank_rule(void)
     struct lent m = lend(&NINE);
     CHECK(setup(&m) == 0);
     for (uint64_t bank = 0; bank < 3; bank++)
-        CHECK(request(&m, 100, bank, 1, 8) == 0 && m.two[0] == THROTTLE_OPENED);
-    CHECK(request(&m, 105, 0, 1, 8) == 0 && m.two[0] == THROTTLE_OPENED);
-    CHECK(request(&m, 106, 1, 1, 8) == 0 && m.two[0] == THROTTLE_WAIT_RANK && m.two[1] == 107);
+        CHECK(request(&m, 100, bank, 1, 8) == 0 && m.out[0] == THROTTLE_OPENED);
+    CHECK(request(&m, 105, 0, 1, 8) == 0 && m.out[0] == THROTTLE_OPENED);
+    CHECK(request(&m, 106, 1, 1, 8) == 0 && m.out[0] == THROTTLE_WAIT_RANK && m.out[1] == 107);
     give_back(&m);
 }
 
@@ -162,7 +165,8 @@ static void order_of_arguments(void)
     struct lent m = lend(&NINE);
     const size_t cell = (2 * 6 + 4) * 3;
     CHECK(setup(&m) == 0);
-    CHECK(request(&m, FIRST, 2, 4, 0xBEEF) == 0 && m.two[0] == 0 && m.two[1] == 0);
+    CHECK(request(&m, FIRST, 2, 4, 0xBEEF) == 0);
+    CHECK(m.out[0] == THROTTLE_OPENED && m.out[1] == 0 && m.out[2] == 3);
     for (size_t i = 0; i < THROTTLE_HEAD_CELLS; i++) {
         uint64_t expected = i == 0 ? FIRST : i == 1 ? 1 : i == 4 || i == 18 ? FIRST + 1 : 0;
         CHECK(m.head[i] == expected);
@@ -176,9 +180,9 @@ static void order_of_arguments(void)
 
     m.threads[cell] = m.threads[cell + 1] = 28;
     CHECK(reading(&m, FIRST + 1, 2, 4) == 0);
-    CHECK(m.three[0] == 28 && m.three[1] == 56 && m.three[2] == 6);
-    CHECK(request(&m, FIRST + 2, 2, 4, 0xBEEF) == 0 && m.two[0] == THROTTLE_WAIT_BANK);
-    CHECK(m.two[1] == FIRST + 5);
+    CHECK(m.index[0] == 28 && m.index[1] == 56 && m.index[2] == 6);
+    CHECK(request(&m, FIRST + 2, 2, 4, 0xBEEF) == 0 && m.out[0] == THROTTLE_WAIT_BANK);
+    CHECK(m.out[1] == FIRST + 5);
     CHECK(done(&m, FIRST + 3, 4, 2) == THROTTLE_OUTSIDE_SETTING);
     CHECK(done(&m, FIRST + 3, 2, 4) == 0 && m.threads[cell + 2] == 0);
     CHECK(m.head[0] == FIRST + 3);
@@ -205,15 +209,24 @@ static void order_of_seeds(void)
     give_back(&m);
 }
 
+/* The three words of both outs are 77. */
+static int outs_kept(const struct lent *m)
+{
+    for (size_t i = 0; i < 3; i++)
+        if (m->out[i] != 77 || m->index[i] != 77)
+            return 0;
+    return 1;
+}
+
 /* Request, done and index are refused with this number and change nothing. */
 static int refused(struct lent *m, uint32_t number, uint64_t tick, uint64_t bank, uint64_t thread)
 {
     struct lent before = copy(m, &NINE);
-    m->two[0] = m->two[1] = m->three[0] = m->three[1] = m->three[2] = 77;
+    for (size_t i = 0; i < 3; i++)
+        m->out[i] = m->index[i] = 77;
     int all = request(m, tick, bank, thread, 9) == number &&
               done(m, tick, bank, thread) == number && reading(m, tick, bank, thread) == number;
-    int kept = same(m, &before) && m->two[0] == 77 && m->two[1] == 77 && m->three[0] == 77 &&
-               m->three[1] == 77 && m->three[2] == 77;
+    int kept = same(m, &before) && outs_kept(m);
     give_back(&before);
     return all && kept;
 }
@@ -236,7 +249,7 @@ static void refused_settings(struct lent *m)
     m->words[0] = 1 << 20, m->words[4] = 1024 * 7 + 1;
     CHECK(setup(m) == THROTTLE_LONG_HISTORY && refused(m, THROTTLE_LONG_HISTORY, FIRST, 2, 4));
     throttle_words(&NINE, m->words);
-    for (unsigned field = 0; field < 9; field++) {
+    for (unsigned field = 0; field < THROTTLE_SETTING_WORDS; field++) {
         m->words[field] += WIDE;
         CHECK(setup(m) == THROTTLE_OUT_OF_RANGE);
         CHECK(refused(m, THROTTLE_OUT_OF_RANGE, FIRST, 2, 4));
@@ -287,8 +300,8 @@ static void refusals(void)
     CHECK(refused(&m, THROTTLE_BAD_TICK, UINT64_MAX, 2, 4));
     CHECK(done(&m, FIRST, 1, 4) == THROTTLE_NONE_IN_FLIGHT);
     CHECK(m.head[0] == FIRST);
-    CHECK(request(&m, LIMIT - 1, 2, 4, 9) == 0 && m.two[0] == THROTTLE_OPENED);
-    CHECK(request(&m, LIMIT - 1, 2, 4, 9) == 0 && m.two[1] == LIMIT + 4);
+    CHECK(request(&m, LIMIT - 1, 2, 4, 9) == 0 && m.out[0] == THROTTLE_OPENED);
+    CHECK(request(&m, LIMIT - 1, 2, 4, 9) == 0 && m.out[1] == LIMIT + 4);
     give_back(&m);
 }
 
@@ -310,10 +323,10 @@ static void longer_buffers(void)
     for (uint64_t tick = FIRST; tick < FIRST + 3 * 4002; tick += 3) {
         uint64_t bank = tick % 3, thread = tick % 5;
         CHECK(request(&m, tick, bank, thread, tick % 2 * 65535) == 0);
-        if (m.two[0] == THROTTLE_OPENED)
+        if (m.out[0] == THROTTLE_OPENED)
             CHECK(done(&m, tick, bank, thread) == 0);
     }
-    CHECK(reading(&m, FIRST + 4 * 4002, 2, 4) == 0 && m.three[0] == 0 && m.three[2] == 11);
+    CHECK(reading(&m, FIRST + 4 * 4002, 2, 4) == 0 && m.index[0] == 0 && m.index[2] == 11);
     give_back(&m);
 }
 
