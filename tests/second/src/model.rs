@@ -3,9 +3,10 @@
 //! nothing.
 
 use crate::clock::move_clock;
-use crate::decision::{count, decide, open};
+use crate::decision::{decide, open};
 use crate::decision::{Call, OPENED, QUOTA, WAIT_BANK, WAIT_ROW};
 use crate::fault::Fault;
+use crate::filter::count;
 use crate::quota::{index_counter, none_in_flight, quota_in_test, take_in_flight};
 use crate::setting::{accept, Config, Rules};
 use crate::state::{State, LAST};
