@@ -100,7 +100,7 @@ impl View<'_> {
 }
 
 /// Ticks of every activation of the row that the history buffer holds.
-fn activations(rules: &Rules, state: &State, bank: usize, row: u16) -> Vec<u64> {
+pub fn activations(rules: &Rules, state: &State, bank: usize, row: u16) -> Vec<u64> {
     let wanted = row_word(bank, row);
     let mut found = Vec::new();
     for place in 0..rules.h {

@@ -11,7 +11,7 @@ use std::process::ExitCode;
 /// Runs within which a fault has to show.
 const RUNS: u64 = 10_000;
 /// Faults that are to be planted at least.
-const FAULTS: usize = 75;
+const FAULTS: usize = 97;
 
 fn main() -> ExitCode {
     let seed = std::env::args()
