@@ -3,8 +3,8 @@
 //! Argument, optional: the seed.
 
 use differential::campaign::Campaign;
-use differential::rings;
 use differential::tally::Tally;
+use differential::{levels, rings};
 use second::Fault;
 use std::process::ExitCode;
 
@@ -24,7 +24,8 @@ fn main() -> ExitCode {
         let mut tally = Tally::default();
         let found = (0..RUNS)
             .find_map(|run| campaign.run(run, fault, &mut tally).err())
-            .or_else(|| rings::compare(fault).err());
+            .or_else(|| rings::compare(fault).err())
+            .or_else(|| levels::compare(fault).err());
         match found {
             Some(difference) => {
                 caught += 1;
