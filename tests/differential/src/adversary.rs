@@ -100,7 +100,9 @@ fn ask(side: &mut impl Side, setting: &[u64; 9], tick: u64, bank: u64, row: u16)
         };
         let answer = side.call(&call);
         assert_eq!(answer.number, 0, "{call:?} on {setting:?}");
-        match answer.out[0] {
+        let [said, until, left] = answer.out;
+        assert!(said == 0 || left == 0, "{answer:?} to {call:?}");
+        match said {
             0 => {
                 call.kind = Kind::Done;
                 assert_eq!(side.call(&call).number, 0, "{call:?} on {setting:?}");
@@ -108,11 +110,8 @@ fn ask(side: &mut impl Side, setting: &[u64; 9], tick: u64, bank: u64, row: u16)
             }
             4 => {}
             _ => {
-                assert!(
-                    answer.out[1] > tick,
-                    "{answer:?} to {call:?} on {setting:?}"
-                );
-                return Reply::Wait(answer.out[1]);
+                assert!(until > tick, "{answer:?} to {call:?} on {setting:?}");
+                return Reply::Wait(until);
             }
         }
     }

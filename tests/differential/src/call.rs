@@ -42,7 +42,8 @@ impl Call {
     };
 }
 
-/// The number a call returns, and out after it.
+/// The number a call returns, and out after it: answer, wait tick and openings
+/// left of a request, or c, D and quota of an index reading.
 #[derive(Clone, Copy, Debug, PartialEq, Eq)]
 pub struct Answer {
     pub number: u32,

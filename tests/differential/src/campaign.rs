@@ -1,13 +1,14 @@
 //! The campaign: numbered runs, each with a setting, seeds, memory and calls
 //! of its own, all settled by the campaign's seed and the run's number.
 
-use crate::call::Call;
+use crate::call::{Call, Kind};
 use crate::contents::{fill_any, fill_near, in_flight_cells, lent};
 use crate::numbers::Numbers;
 use crate::pair::{Difference, Pair};
-use crate::settings::{at_bounds, large, medium, mixed, odd_seeds, seeds, small, THREADS};
-use crate::tally::{Standing, Tally};
+use crate::settings::{at_bounds, large, medium, mixed, odd_seeds, seeds, small, THREADS, W};
+use crate::tally::{Counters, Standing, Tally};
 use crate::walk::Walk;
+use second::filter::hash;
 use second::{Fault, State};
 
 pub struct Campaign {
@@ -41,7 +42,8 @@ impl Campaign {
         let setups = if run % 8 == 7 { 8 } else { 100 };
         let mut walk = Walk::new(Numbers::new(numbers.word()), calls, setups);
         let mut state = lent(&mut numbers, &setting);
-        let fresh = fill(run, &mut numbers, &setting, &walk.rows, &mut state);
+        let rows = &walk.rows;
+        let fresh = fill(run, &mut numbers, &setting, &seeds, rows, &mut state);
         let mut pair = Pair::new(setting, seeds, state, fault);
         tally.scenarios += 1;
         if fresh {
@@ -81,6 +83,7 @@ fn fill(
     run: u64,
     numbers: &mut Numbers,
     setting: &[u64; 9],
+    seeds: &[u16],
     rows: &[u16],
     state: &mut State,
 ) -> bool {
@@ -94,7 +97,7 @@ fn fill(
             false
         }
         _ => {
-            fill_near(numbers, setting, rows, state);
+            fill_near(numbers, setting, seeds, rows, state);
             numbers.one_in(4)
         }
     }
@@ -112,7 +115,24 @@ fn step(
     let answer = pair.call(call)?;
     walk.note(call, &answer);
     tally.note(pair.setting(), call, &answer, before, head(pair), &thread);
+    if call.kind == Kind::Request && answer.number == 0 {
+        tally.note_left(pair.setting(), &answer, before[0], &counters(pair, call));
+    }
     Ok(())
+}
+
+/// The counters of the row of a request that was answered.
+fn counters(pair: &Pair, call: &Call) -> Counters {
+    let cells = pair.memory().counters.cells();
+    let places = hash(pair.memory().seeds.cells(), call.row);
+    let first = call.bank as usize * 2_048;
+    let of_filter = |start: usize| places.map(|place| u64::from(cells[start + place]));
+    let epoch = call.tick / (pair.setting()[W] / 2);
+    Counters {
+        filters: [first, first + 1_024].map(of_filter),
+        tested: (epoch % 2) as usize,
+        one_place: places == [places[0]; 4],
+    }
 }
 
 /// What a call's thread has, zeros where there is no such thread or bank.

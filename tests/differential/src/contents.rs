@@ -3,6 +3,7 @@
 
 use crate::numbers::Numbers;
 use crate::settings::{history, BANKS, L, N, Q, TD, TFAW, THREADS, TRC, W};
+use second::filter::hash;
 use second::state::{BANK, LAST, PLACE, RANK};
 use second::State;
 
@@ -85,7 +86,13 @@ fn chain(numbers: &mut Numbers, ticks: &mut [u64]) {
 
 /// Fills memory with odd contents that refusal 7 lets pass, but for one case
 /// in eight. The rows are those the calls will ask for.
-pub fn fill_near(numbers: &mut Numbers, setting: &[u64; 9], rows: &[u16], state: &mut State) {
+pub fn fill_near(
+    numbers: &mut Numbers,
+    setting: &[u64; 9],
+    seeds: &[u16],
+    rows: &[u16],
+    state: &mut State,
+) {
     let last = last_tick(numbers, setting);
     state.head[LAST] = last;
     for cell in BANK..RANK + 4 {
@@ -97,6 +104,9 @@ pub fn fill_near(numbers: &mut Numbers, setting: &[u64; 9], rows: &[u16], state:
     }
     fill_history(numbers, setting, rows, state);
     fill_counters(numbers, setting, state);
+    if seeds.len() == 64 && numbers.one_in(2) {
+        stand_near_n(numbers, setting, seeds, rows, state);
+    }
     fill_threads(numbers, setting, state);
     if numbers.one_in(8) {
         spoil(numbers, setting, state);
@@ -171,6 +181,30 @@ fn fill_counters(numbers: &mut Numbers, setting: &[u64; 9], state: &mut State) {
         3 => numbers.pick(&[0, 1, n as u16, 65_535]),
         _ => numbers.word() as u16,
     });
+}
+
+/// The counters of these rows, in each filter of each bank on its own: one of
+/// the four is around N, the others are not below it.
+fn stand_near_n(
+    numbers: &mut Numbers,
+    setting: &[u64; 9],
+    seeds: &[u16],
+    rows: &[u16],
+    state: &mut State,
+) {
+    let n = setting[N].min(65_535);
+    for places in rows.iter().map(|&row| hash(seeds, row)) {
+        for filter in state.counters.chunks_mut(1_024) {
+            let least = (n + numbers.within(0, 5)).saturating_sub(4);
+            let at = numbers.within(0, 3) as usize;
+            for (k, place) in places.into_iter().enumerate() {
+                let above = numbers.pick(&[0, 1, 2, 60_000]) * u64::from(k != at);
+                if let Some(counter) = filter.get_mut(place) {
+                    *counter = (least + above).min(65_535) as u16;
+                }
+            }
+        }
+    }
 }
 
 /// Index counters below, at and above D, and the requests in flight of each

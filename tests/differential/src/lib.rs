@@ -9,12 +9,14 @@
 //! - `settings`, `contents`, `walk`: settings, memory and calls
 //! - `campaign`, `tally`: numbered runs, and what they reached
 //! - `rings`: histories at the edges of refusal 7
+//! - `levels`: counters around N, for the openings left
 //! - `adversary`: rows hammered as often as the answers allow
 
 pub mod adversary;
 pub mod call;
 pub mod campaign;
 mod contents;
+pub mod levels;
 mod library;
 mod memory;
 pub mod numbers;

@@ -59,7 +59,8 @@ pub struct Memory {
     pub ticks: Guarded<u64>,
     pub rows: Guarded<u32>,
     pub threads: Guarded<u32>,
-    /// Three cells, of which a request uses two.
+    /// Three cells: answer, wait tick and openings left of a request, or the
+    /// index.
     pub out: Guarded<u64>,
 }
 

@@ -50,17 +50,13 @@ impl Side for Second {
         let config = Config::new(self.setting, &self.seeds).with(self.fault);
         let state = &mut self.state;
         let (tick, bank, thread) = (call.tick, call.bank, call.thread);
-        let [a, b, c] = OUT;
-        let (mut two, mut three) = ([a, b], OUT);
+        let mut out = OUT;
         let number = match call.kind {
             Kind::Setup => setup(&config, state),
-            Kind::Request => request(&config, state, tick, bank, thread, call.row, &mut two),
+            Kind::Request => request(&config, state, tick, bank, thread, call.row, &mut out),
             Kind::Done => done(&config, state, tick, bank, thread),
-            Kind::Index => index(&config, state, tick, bank, thread, &mut three),
+            Kind::Index => index(&config, state, tick, bank, thread, &mut out),
         };
-        if call.kind == Kind::Request {
-            three = [two[0], two[1], c];
-        }
-        Answer { number, out: three }
+        Answer { number, out }
     }
 }

@@ -7,7 +7,7 @@ use std::cmp::Ordering;
 use std::fmt;
 
 /// Names of the events that are counted.
-const EVENTS: [&str; 15] = [
+const EVENTS: [&str; 26] = [
     "moves over one epoch turn",
     "moves over two or more epoch turns",
     "history place moved from H - 1 to 0",
@@ -23,7 +23,20 @@ const EVENTS: [&str; 15] = [
     "requests not held, with some in flight in other banks",
     "dones refused with 10, with some in flight in other banks",
     "dones answered, with some in flight in other banks",
+    "requests opened with 0 left",
+    "requests opened with 1 left",
+    "requests opened with 2 or more left",
+    "requests opened with 256 or more left",
+    "requests opened with 0 left and an estimate above N",
+    "requests opened with some left, for rows whose four places are one",
+    "requests opened with other left than the filter not tested gives",
+    "requests opened with other left than the filter of the last tick gives",
+    "requests opened with other left than the greatest counter gives",
+    "requests that wait, for rows with an estimate below N",
+    "requests held by the quota, for rows with an estimate below N",
 ];
+/// The first event of `note_left`.
+const LEFT: usize = 15;
 
 /// Least number of times that each refusal, answer and event is reached.
 const LEAST: u64 = 20;
@@ -36,7 +49,7 @@ pub struct Tally {
     numbers: [[u64; 11]; 4],
     /// Requests by answer.
     answers: [u64; 5],
-    events: [u64; 15],
+    events: [u64; 26],
 }
 
 /// What a call's thread has before the call.
@@ -45,6 +58,16 @@ pub struct Standing {
     pub cells: [u64; 3],
     /// Its requests in flight in all banks.
     pub total: u64,
+}
+
+/// The counters of a request's row after the request.
+pub struct Counters {
+    /// The four of filter 0 and of filter 1.
+    pub filters: [[u64; 4]; 2],
+    /// The filter tested.
+    pub tested: usize,
+    /// Do the four hash functions name one place?
+    pub one_place: bool,
 }
 
 impl Tally {
@@ -87,7 +110,7 @@ impl Tally {
             request && wait >= 1 << 62,
             call.kind == Kind::Index && out > wait,
         ];
-        // The events after these are counted by `note_quota` and `note_done`.
+        // The events after these are counted by the methods below.
         for (event, happened) in self.events.iter_mut().zip(happened) {
             *event += u64::from(happened);
         }
@@ -121,6 +144,42 @@ impl Tally {
         if thread.total > thread.cells[2] {
             self.events[13] += u64::from(number == 10);
             self.events[14] += u64::from(number == 0);
+        }
+    }
+
+    /// Counts an answered request by its openings left, and where a wrong way to
+    /// find them shows. `last` is the last tick before the request.
+    pub fn note_left(
+        &mut self,
+        setting: &[u64; 9],
+        answer: &Answer,
+        last: u64,
+        counters: &Counters,
+    ) {
+        let [said, _, left] = answer.out;
+        let least = counters.filters.map(|four| four.into_iter().min());
+        let least = least.map(Option::unwrap_or_default);
+        let greatest = counters.filters[counters.tested].into_iter().max();
+        let estimate = least[counters.tested];
+        let former = (last / (setting[W] / 2) % 2) as usize;
+        let n = setting[N];
+        let opened = said == 0;
+        let other = |estimate: u64| opened && left != n.saturating_sub(estimate);
+        let happened = [
+            opened && left == 0,
+            opened && left == 1,
+            opened && left >= 2,
+            opened && left >= 256,
+            opened && left == 0 && estimate > n,
+            opened && left > 0 && counters.one_place,
+            other(least[1 - counters.tested]),
+            other(least[former]),
+            other(greatest.unwrap_or_default()),
+            (1..=3).contains(&said) && estimate < n,
+            said == 4 && estimate < n,
+        ];
+        for (event, happened) in self.events[LEFT..].iter_mut().zip(happened) {
+            *event += u64::from(happened);
         }
     }
 

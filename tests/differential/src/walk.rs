@@ -6,7 +6,7 @@ use crate::call::{Answer, Call, Kind};
 use crate::numbers::Numbers;
 use crate::pair::Pair;
 use crate::settings::{history, BANKS, N, TD, TFAW, THREADS, TRC, W};
-use second::decision::hash;
+use second::filter::hash;
 use second::state::{BANK, LAST, RANK};
 
 /// The second implementation tries wait ticks one by one. Where the delay is

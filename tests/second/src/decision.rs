@@ -1,10 +1,10 @@
-//! The decision about a request: the counting Bloom filters and their
-//! estimate, the quota, bank, rank and row rules in their order, the wait tick,
-//! and what an activation writes. The wait tick is found by trying one tick
-//! after the other.
+//! The decision about a request: the quota, bank, rank and row rules in their
+//! order, the wait tick, and what an activation writes. The wait tick is found
+//! by trying one tick after the other.
 
 use crate::clock::{tested, turned_filters};
 use crate::fault::Fault;
+use crate::filter::{count, counters, estimate};
 use crate::quota::{add_in_flight, held};
 use crate::setting::Rules;
 use crate::state::{thread_cell, State, BANK, PLACE, RANK};
@@ -22,53 +22,6 @@ pub struct Call {
     pub tick: u64,
     pub bank: usize,
     pub thread: usize,
-}
-
-/// The four counters of a row: function f is the exclusive or of its seeds i
-/// for which bit i of the row is set. Needs the 64 seeds of an accepted
-/// setting.
-pub fn hash(seeds: &[u16], row: u16) -> [usize; 4] {
-    std::array::from_fn(|function| {
-        let mut word = 0;
-        for bit in 0..16 {
-            if row >> bit & 1 == 1 {
-                word ^= seeds[function * 16 + bit];
-            }
-        }
-        usize::from(word)
-    })
-}
-
-/// The counter places of a row in this setting.
-fn places(rules: &Rules, row: u16) -> [usize; 4] {
-    if rules.has(Fault::SeedsReversed) {
-        return hash(rules.seeds, row.reverse_bits());
-    }
-    hash(rules.seeds, row)
-}
-
-/// An activation adds 1 to each distinct counter once, in both filters, if it
-/// is below N.
-pub fn count(rules: &Rules, state: &mut State, bank: usize, row: u16) {
-    let places = places(rules, row);
-    let filters = if rules.has(Fault::FilterZeroTwice) {
-        [0, 0]
-    } else {
-        [0, 1]
-    };
-    for filter in filters {
-        for (k, place) in places.iter().enumerate() {
-            let seen = places[..k].contains(place);
-            if seen && !rules.has(Fault::AddsTwiceToShared) {
-                continue;
-            }
-            let cell = &mut state.counters[bank * 2048 + filter * 1024 + place];
-            let at_n = rules.has(Fault::CountsAtThreshold) && u64::from(*cell) == rules.n;
-            if u64::from(*cell) < rules.n || at_n {
-                *cell += 1;
-            }
-        }
-    }
 }
 
 /// What the bank, rank and row rules look at, for one row of one bank. Small
@@ -100,18 +53,16 @@ impl View<'_> {
         self
     }
 
-    /// Estimate N or more, the estimate being the least of the row's four
-    /// counters in the tested filter.
+    /// Is the estimate that the tested filter reports N or more?
     fn blacklisted(&self, rules: &Rules) -> bool {
-        let four = self.counters[tested(rules, self.tick)].map(u64::from);
-        let least = four[0].min(four[1]).min(four[2]).min(four[3]);
+        let four = self.counters[tested(rules, self.tick)];
         if rules.has(Fault::EstimateGreatest) {
-            return four.iter().any(|&counter| counter >= rules.n);
+            return four.iter().any(|&counter| u64::from(counter) >= rules.n);
         }
         if rules.has(Fault::BlacklistedAboveN) {
-            return least > rules.n;
+            return estimate(four) > rules.n;
         }
-        least >= rules.n
+        estimate(four) >= rules.n
     }
 
     /// Is there an activation of the row in the history that is at most t and
@@ -149,7 +100,7 @@ impl View<'_> {
 }
 
 /// Ticks of every activation of the row that the history buffer holds.
-fn activations(rules: &Rules, state: &State, bank: usize, row: u16) -> Vec<u64> {
+pub fn activations(rules: &Rules, state: &State, bank: usize, row: u16) -> Vec<u64> {
     let wanted = row_word(bank, row);
     let mut found = Vec::new();
     for place in 0..rules.h {
@@ -186,14 +137,11 @@ fn view<'a>(
         Fault::RankLeastOfFour => four.iter().copied().min().unwrap_or(0),
         _ => four[3],
     };
-    let places = places(rules, row);
-    let counters = [0, 1]
-        .map(|filter| places.map(|place| state.counters[call.bank * 2048 + filter * 1024 + place]));
     View {
         tick: call.tick,
         bank: state.head[BANK + call.bank],
         rank,
-        counters,
+        counters: [0, 1].map(|filter| counters(rules, state, (call.bank, filter), row)),
         activations,
     }
 }

@@ -6,7 +6,9 @@
 //! - `setting`: the setting, its derived numbers and refusals 1 to 5
 //! - `state`: the lent memory and refusals 6 and 7
 //! - `clock`: epochs and the clearing at an epoch turn
+//! - `filter`: the counting Bloom filters and the estimate they report
 //! - `decision`: the rules about a request and what an activation writes
+//! - `left`: the openings left that a request reports
 //! - `quota`: the quota rule, the thread's total in flight and what a done takes
 //! - `model`: the four calls (set-up, request, done, index)
 //! - `log`: the log checker and an encoder for logs
@@ -15,6 +17,8 @@
 mod clock;
 pub mod decision;
 pub mod fault;
+pub mod filter;
+mod left;
 pub mod log;
 pub mod model;
 pub mod quota;

@@ -191,7 +191,8 @@ impl Run {
         }
     }
 
-    /// Runs one record; true if the rules answer as it says.
+    /// Runs one record; true if the rules answer as it says. A record has no
+    /// openings left.
     fn judge(&mut self, record: &Record) -> Result<bool, u32> {
         let config = Config {
             setting: self.setting,
@@ -199,7 +200,7 @@ impl Run {
             fault: self.fault,
         };
         let (bank, thread) = (u64::from(record.bank), u64::from(record.thread));
-        let mut out = [0, 0];
+        let mut out = [0; 3];
         let refusal = match record.kind {
             0 => {
                 let row = record.row;
@@ -222,7 +223,7 @@ impl Run {
         if record.kind == 0 && out[0] == OPENED {
             self.opened += 1;
         }
-        Ok(out == [u64::from(record.answer), record.wait])
+        Ok(out[..2] == [u64::from(record.answer), record.wait])
     }
 
     /// Runs a block's records up to the first that differs; its place from 1.

@@ -3,9 +3,11 @@
 //! nothing.
 
 use crate::clock::move_clock;
-use crate::decision::{count, decide, open};
+use crate::decision::{decide, open};
 use crate::decision::{Call, OPENED, QUOTA, WAIT_BANK, WAIT_ROW};
 use crate::fault::Fault;
+use crate::filter::count;
+use crate::left::{held_back, left, too_early};
 use crate::quota::{index_counter, none_in_flight, quota_in_test, take_in_flight};
 use crate::setting::{accept, Config, Rules};
 use crate::state::{State, LAST};
@@ -23,7 +25,8 @@ pub fn setup(config: &Config, state: &mut State) -> u32 {
     0
 }
 
-/// Request a row; `out` becomes the answer's number and the wait tick.
+/// Request a row; `out` becomes the answer's number, the wait tick and the
+/// openings left.
 pub fn request(
     config: &Config,
     state: &mut State,
@@ -31,7 +34,7 @@ pub fn request(
     bank: u64,
     thread: u64,
     row: u16,
-    out: &mut [u64; 2],
+    out: &mut [u64; 3],
 ) -> u32 {
     let (rules, call) = match enter(config, state, tick, bank, thread) {
         Ok(entered) => entered,
@@ -39,10 +42,14 @@ pub fn request(
             if config.fault == Fault::CountsRefused && number == 9 {
                 count_refused(config, state, bank, row);
             }
+            if config.fault == Fault::LeftWrittenOnRefusal {
+                out[2] = 0;
+            }
             return number;
         }
     };
     let before = rules.has(Fault::WaitKeepsClock).then(|| state.clone());
+    let early = too_early(&rules, state, &call, row);
     let last = state.head[LAST];
     move_clock(&rules, state, &call);
     let (answer, wait) = decide(&rules, state, &call, row);
@@ -51,7 +58,11 @@ pub fn request(
     } else if counts_held(&rules, answer) {
         count(&rules, state, call.bank, row);
     }
-    *out = [answer, wait];
+    let left = match answer {
+        OPENED => early.unwrap_or_else(|| left(&rules, state, &call, row, last)),
+        _ => held_back(&rules, state, &call, row, answer, out[2]),
+    };
+    *out = [answer, wait, left];
     if let (Some(before), WAIT_BANK..=WAIT_ROW) = (before, answer) {
         *state = before;
     }

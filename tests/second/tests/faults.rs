@@ -3,7 +3,7 @@
 
 mod common;
 
-use common::{Numbers, BANKS, L, N, Q, TD, THREADS, W};
+use common::{faults_of_left, Numbers, BANKS, L, N, Q, TD, THREADS, W};
 use second::setting::{accept, history_length, house_seeds, row_bound};
 use second::{done, index, request, setup, Config, Fault, State};
 
@@ -25,10 +25,15 @@ struct Run {
     calls: Vec<Call>,
 }
 
-/// A small setting, accepted or short of its row bound.
+/// A small setting, accepted or short of its row bound; at times N is above a
+/// byte.
 fn setting(numbers: &mut Numbers) -> [u64; 9] {
     let trc = numbers.within(1, 3);
-    let n = numbers.within(1, 3);
+    let n = if numbers.one_in(20) {
+        300
+    } else {
+        numbers.within(1, 3)
+    };
     let w = 2 * (n * trc + numbers.within(4, 20));
     let td = numbers.within(trc, w / 2);
     let tfaw = numbers.within(1, 9);
@@ -193,39 +198,68 @@ fn answer(config: &Config, state: &mut State, call: &Call) -> (u32, [u64; 3]) {
         row,
         ..
     } = *call;
-    let (mut two, mut three) = ([7; 2], [7; 3]);
+    let mut out = [7; 3];
     let number = match call.kind {
         0 => done(config, state, tick, bank, thread),
-        1 => index(config, state, tick, bank, thread, &mut three),
-        _ => request(config, state, tick, bank, thread, row, &mut two),
+        1 => index(config, state, tick, bank, thread, &mut out),
+        _ => request(config, state, tick, bank, thread, row, &mut out),
     };
-    if call.kind > 1 {
-        three[..2].copy_from_slice(&two);
-    }
-    (number, three)
+    (number, out)
 }
 
-/// Does a run go another way with the fault switched on?
-fn shows(run: &Run, fault: Fault) -> bool {
+/// Where a run with a fault goes another way.
+#[derive(Clone, Copy, PartialEq, Eq)]
+enum Shown {
+    Nowhere,
+    /// In the openings left of a request and in nothing else.
+    InLeft,
+    Elsewhere,
+}
+
+/// Elsewhere if a call goes another way in anything but openings left, and
+/// else in them if a call does that.
+fn shown(run: &Run, fault: Fault) -> Shown {
     let plain = Config::new(run.setting, &run.seeds);
     let faulty = plain.with(fault);
     let (mut right, mut wrong) = (run.state.clone(), run.state.clone());
-    run.calls.iter().any(|call| {
-        let answers = (
-            answer(&plain, &mut right, call),
-            answer(&faulty, &mut wrong, call),
-        );
-        answers.0 != answers.1 || right != wrong
-    })
+    let mut shown = Shown::Nowhere;
+    for call in &run.calls {
+        let (right_number, right_out) = answer(&plain, &mut right, call);
+        let (wrong_number, mut wrong_out) = answer(&faulty, &mut wrong, call);
+        if call.kind > 1 && right_out[2] != wrong_out[2] {
+            shown = Shown::InLeft;
+            wrong_out[2] = right_out[2];
+        }
+        if (right_number, right_out, &right) != (wrong_number, wrong_out, &wrong) {
+            return Shown::Elsewhere;
+        }
+    }
+    shown
+}
+
+/// A fault of openings left shows in them, every other one elsewhere too.
+#[test]
+fn every_fault_shows() {
+    assert!(Fault::ALL.len() >= 97);
+    assert_eq!(Fault::default(), Fault::None);
+    for &fault in Fault::ALL {
+        let wanted = if faults_of_left().contains(&fault) {
+            Shown::InLeft
+        } else {
+            Shown::Elsewhere
+        };
+        let found = (1..2000).any(|seed| shown(&run(seed), fault) == wanted);
+        assert!(found, "{fault:?} does not show");
+    }
 }
 
 #[test]
-fn every_fault_shows() {
-    assert!(Fault::ALL.len() >= 75);
-    assert_eq!(Fault::default(), Fault::None);
-    for &fault in Fault::ALL {
-        let found = (1..2000).any(|seed| shows(&run(seed), fault));
-        assert!(found, "{fault:?} does not show");
+fn faults_of_openings_left_show_nowhere_else() {
+    assert!(faults_of_left().len() >= 21);
+    for fault in faults_of_left() {
+        for seed in 1..200 {
+            assert!(shown(&run(seed), fault) != Shown::Elsewhere, "{fault:?}");
+        }
     }
 }
 
@@ -233,7 +267,7 @@ fn every_fault_shows() {
 fn plain_runs_are_repeatable_and_refusals_change_nothing() {
     for seed in 1..200 {
         let run = run(seed);
-        assert!(!shows(&run, Fault::None));
+        assert!(shown(&run, Fault::None) == Shown::Nowhere);
         let config = Config::new(run.setting, &run.seeds);
         let mut state = run.state.clone();
         for call in &run.calls {

@@ -3,7 +3,7 @@
 mod common;
 
 use common::*;
-use second::decision::hash;
+use second::filter::hash;
 use second::setting::{history_length, house_seeds, row_bound};
 use second::Config;
 

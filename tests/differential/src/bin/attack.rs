@@ -8,7 +8,7 @@ use differential::call::Call;
 use differential::numbers::Numbers;
 use differential::settings::{bound, seeds, L, N, TD, TRC, W};
 use differential::side::{Library, Second, Side};
-use second::decision::hash;
+use second::filter::hash;
 use second::setting::{accept, house_seeds};
 use second::{Config, Fault, State};
 use std::process::ExitCode;

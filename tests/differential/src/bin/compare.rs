@@ -1,11 +1,11 @@
 //! Compares the library with the second implementation after every call of a
-//! campaign, and on listed histories. Arguments, both optional: the seed and the
-//! number of runs.
+//! campaign, and on listed histories and counters. Arguments, both optional: the
+//! seed and the number of runs.
 
 use differential::campaign::Campaign;
-use differential::rings;
 use differential::settings::{accepted, BASES};
 use differential::tally::Tally;
+use differential::{levels, rings};
 use second::Fault;
 use std::process::ExitCode;
 
@@ -43,6 +43,16 @@ fn main() -> ExitCode {
         ),
         Err(difference) => {
             println!("compare: DIFFERENCE in a listed history: {difference:#?}");
+            return ExitCode::FAILURE;
+        }
+    }
+    match levels::compare(Fault::None) {
+        Ok(told) => println!(
+            "  listed counters: {} opened with 0 left, {} with more",
+            told.none, told.some
+        ),
+        Err(difference) => {
+            println!("compare: DIFFERENCE with listed counters: {difference:#?}");
             return ExitCode::FAILURE;
         }
     }

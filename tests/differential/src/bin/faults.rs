@@ -3,15 +3,15 @@
 //! Argument, optional: the seed.
 
 use differential::campaign::Campaign;
-use differential::rings;
 use differential::tally::Tally;
+use differential::{levels, rings};
 use second::Fault;
 use std::process::ExitCode;
 
 /// Runs within which a fault has to show.
 const RUNS: u64 = 10_000;
 /// Faults that are to be planted at least.
-const FAULTS: usize = 75;
+const FAULTS: usize = 97;
 
 fn main() -> ExitCode {
     let seed = std::env::args()
@@ -24,7 +24,8 @@ fn main() -> ExitCode {
         let mut tally = Tally::default();
         let found = (0..RUNS)
             .find_map(|run| campaign.run(run, fault, &mut tally).err())
-            .or_else(|| rings::compare(fault).err());
+            .or_else(|| rings::compare(fault).err())
+            .or_else(|| levels::compare(fault).err());
         match found {
             Some(difference) => {
                 caught += 1;

@@ -62,11 +62,12 @@ impl Logger {
     /// Requests a row and notes the answer and the wait tick, which it returns.
     fn request(&mut self, tick: u64, (bank, thread): (u64, u64), row: u16) -> [u64; 2] {
         let config = Config::new(self.setting, &self.seeds).with(self.fault);
-        let mut out = [0, 0];
+        let mut out = [0; 3];
         let refusal = request(&config, &mut self.state, tick, bank, thread, row, &mut out);
         assert_eq!(refusal, 0, "a request at tick {tick}");
-        self.note(tick, out, row, (bank, thread), 0);
-        out
+        let [answer, wait, _] = out;
+        self.note(tick, [answer, wait], row, (bank, thread), 0);
+        [answer, wait]
     }
 
     /// Reports a done, whose row is of no meaning.

@@ -20,7 +20,7 @@ pub const Q: usize = 6;
 pub const BANKS: usize = 7;
 pub const THREADS: usize = 8;
 
-/// What a request answers, unless it is refused.
+/// Answer and wait tick of a request, unless it is refused.
 pub const OPENED: Result<[u64; 2], u32> = Ok([0, 0]);
 pub const QUOTA: Result<[u64; 2], u32> = Ok([4, 0]);
 
@@ -40,6 +40,12 @@ pub fn s_with(changes: &[(usize, u64)]) -> [u64; 9] {
 /// The refusal of a setting, 0 if it is accepted.
 pub fn refusal(setting: [u64; 9], seeds: &[u16]) -> u32 {
     accept(&Config::new(setting, seeds)).err().unwrap_or(0)
+}
+
+/// The wrong behaviours that concern openings left.
+pub fn faults_of_left() -> Vec<Fault> {
+    let named = |fault: &Fault| format!("{fault:?}").starts_with("Left");
+    Fault::ALL.iter().copied().filter(named).collect()
 }
 
 /// Xorshift numbers, the same on every run.
@@ -96,17 +102,23 @@ impl Throttle {
         setup(&Config::new(self.setting, &self.seeds), &mut self.state)
     }
 
-    /// A request: the refusal, or answer and wait tick.
-    pub fn at(&mut self, tick: u64, bank: u64, thread: u64, row: u16) -> Result<[u64; 2], u32> {
+    /// A request: the refusal, or answer, wait tick and openings left.
+    pub fn ask(&mut self, tick: u64, bank: u64, thread: u64, row: u16) -> Result<[u64; 3], u32> {
         let config = Config::new(self.setting, &self.seeds).with(self.fault);
-        let mut out = [77, 78];
+        let mut out = [77, 78, 79];
         match request(&config, &mut self.state, tick, bank, thread, row, &mut out) {
             0 => Ok(out),
             number => {
-                assert_eq!(out, [77, 78]);
+                assert_eq!(out, [77, 78, 79]);
                 Err(number)
             }
         }
+    }
+
+    /// A request: the refusal, or answer and wait tick.
+    pub fn at(&mut self, tick: u64, bank: u64, thread: u64, row: u16) -> Result<[u64; 2], u32> {
+        let out = self.ask(tick, bank, thread, row);
+        out.map(|[answer, wait, _]| [answer, wait])
     }
 
     /// A request of row 5 by thread 0 in bank 0.
@@ -158,7 +170,7 @@ impl Throttle {
 /// Thirty requests and dones at random ticks, banks and threads, each with the
 /// answer that a throttle gives. Three in four requests are for row 5; where a
 /// done is refused a request stands.
-fn logged(mut throttle: Throttle, seed: u64) -> Vec<Record> {
+pub fn logged(mut throttle: Throttle, seed: u64) -> Vec<Record> {
     let numbers = &mut Numbers::new(seed + 1);
     let [.., banks, threads] = throttle.setting;
     let mut tick = 0;

@@ -1,0 +1,70 @@
+//! The counting Bloom filters: the four counters that a row's hash names, what
+//! an activation adds to them, and the estimate that a filter reports.
+
+use crate::fault::Fault;
+use crate::setting::Rules;
+use crate::state::State;
+
+/// The four counters of a row: function f is the exclusive or of its seeds i
+/// for which bit i of the row is set. Needs the 64 seeds of an accepted
+/// setting.
+pub fn hash(seeds: &[u16], row: u16) -> [usize; 4] {
+    std::array::from_fn(|function| {
+        let mut word = 0;
+        for bit in 0..16 {
+            if row >> bit & 1 == 1 {
+                word ^= seeds[function * 16 + bit];
+            }
+        }
+        usize::from(word)
+    })
+}
+
+/// The counter places of a row in this setting.
+fn places(rules: &Rules, row: u16) -> [usize; 4] {
+    if rules.has(Fault::SeedsReversed) {
+        return hash(rules.seeds, row.reverse_bits());
+    }
+    hash(rules.seeds, row)
+}
+
+/// An activation adds 1 to each distinct counter once, in both filters, if it
+/// is below N.
+pub fn count(rules: &Rules, state: &mut State, bank: usize, row: u16) {
+    let places = places(rules, row);
+    let filters = if rules.has(Fault::FilterZeroTwice) {
+        [0, 0]
+    } else {
+        [0, 1]
+    };
+    for filter in filters {
+        for (k, place) in places.iter().enumerate() {
+            let seen = places[..k].contains(place);
+            if seen && !rules.has(Fault::AddsTwiceToShared) {
+                continue;
+            }
+            let cell = &mut state.counters[bank * 2048 + filter * 1024 + place];
+            let at_n = rules.has(Fault::CountsAtThreshold) && u64::from(*cell) == rules.n;
+            if u64::from(*cell) < rules.n || at_n {
+                *cell += 1;
+            }
+        }
+    }
+}
+
+/// The row's four counters in one filter of one bank.
+pub fn counters(
+    rules: &Rules,
+    state: &State,
+    (bank, filter): (usize, usize),
+    row: u16,
+) -> [u16; 4] {
+    places(rules, row).map(|place| state.counters[bank * 2048 + filter * 1024 + place])
+}
+
+/// The estimate that a filter reports of a row: the least of the row's four
+/// counters in it.
+pub fn estimate(four: [u16; 4]) -> u64 {
+    let [first, second, third, fourth] = four.map(u64::from);
+    first.min(second).min(third).min(fourth)
+}
