@@ -88,10 +88,10 @@ pub fn request(
         x.epoch,
         s.n <= v.active,
     );
-    let head = y.head;
+    let after = y.head;
     Decided {
         answer: answer(d, openings_left(s.n, y.estimate)),
-        head,
+        head: after,
     }
 }
 

@@ -1,19 +1,20 @@
 -- What an activation adds: the four stores of a filter, and the two filters of a bank, against the rules' `counted`.
 -- All of it is about natural numbers, so it serves counters of every width.
-use mathlib.Core.Path.{_≡_, refl, sym, ap, _∙_, subst}
+use mathlib.Core.Path.{_≡_, refl, sym, ap, ap₂, _∙_, subst}
 use mathlib.Core.Logic.{_⊎_, inl, inr}
 use mathlib.Core.List.{List, [], _∷_, map}
 use mathlib.Core.Bool.{Bool, true, false, _||_, cond}
-use Prim.Native.Nat.{ℕ, _+_, _*_, _≤_, _<_}
+use Prim.Native.Nat.{ℕ, zero, suc, _+_, _*_, _≤_, _<_, min}
 use native.Mathlib.Omega.{arith}
 use lib.Dec.{T, eqb, eqb→eq}
 use lib.ListN.{length, getD, set}
 use borrow.Author.Tests.{eq-eqb, ne-eqb}
 use Rattle.rules.specs.Cells.{member, All}
 use Rattle.rules.specs.State.{counterCell}
-use Rattle.rules.specs.Filter.{Within, two, counterAt, raised, named, counted}
-use Rattle.rules.proofs.Tests.{or-e}
-use Rattle.rules.proofs.Cells.{map-same, map-map, store-map}
+use Rattle.rules.specs.Filter.{Within, two, counterAt, estimate, raised, named, counted}
+use Rattle.rules.proofs.Tests.{or-e, holds, cond-yes}
+use Rattle.rules.proofs.Cells.{getD-mapCells, map-same, map-map, store-map}
+use Rattle.rules.proofs.Filter.{member-map, member-cell}
 use Rattle.filter_count.specs.Changes.{raisedAt}
 
 -- ---- the counters of a list of cells
@@ -50,6 +51,13 @@ list-of-four (a ∷ b ∷ c ∷ []) e = absurd (omega arith)
 list-of-four (a ∷ b ∷ c ∷ d ∷ []) e = refl
 list-of-four (a ∷ b ∷ c ∷ d ∷ x ∷ xs) e = absurd (omega arith)
 
+within-place : (at : List ℕ) (k : ℕ) → Within at → k < 4 → getD at k 0 < 1024
+within-place at zero w h = w .first
+within-place at (suc zero) w h = w .second
+within-place at (suc (suc zero)) w h = w .third
+within-place at (suc (suc (suc zero))) w h = w .fourth
+within-place at (suc (suc (suc (suc k)))) w h = absurd (omega arith)
+
 within-all : (at : List ℕ) → length at ≡ 4 → Within at → All (λ p. p < 1024) at
 within-all at e w = subst (λ l. All (λ p. p < 1024) l) (list-of-four at e) (w .first, (w .second, (w .third, (w .fourth, tt))))
 
@@ -64,6 +72,38 @@ row-raised n bank f at cs v0 v1 v2 v3 four w hf long e0 e1 e2 e3 =
     raised-four n cs (k 0) (k 1) (k 2) (k 3) v0 v1 v2 v3
     (omega (arith, w .first)) (omega (arith, w .second)) (omega (arith, w .third)) (omega (arith, w .fourth)) e0 e1 e2 e3
     ∙ ap (λ l. raisedAt n (map (counterCell bank f) l) cs) (list-of-four at four)
+
+-- ---- the estimate after the stores
+
+-- a cell of the list holds what it held, raised, and any other what it held
+raised-cell : (n : ℕ) (at cs : List ℕ) (j : ℕ) → j < length cs → T (member j at) → getD (raisedAt n at cs) j 0 ≡ raised n (getD cs j 0)
+unfolding raisedAt
+raised-cell n at cs j h m =
+    getD-mapCells (λ i c. cond (member i at) (raised n c) c) j cs h ∙ cond-yes (member j at) (raised n (getD cs j 0)) (getD cs j 0) m
+
+other-cell : (n : ℕ) (at cs : List ℕ) (j : ℕ) → j < length cs → member j at ≡ false → getD (raisedAt n at cs) j 0 ≡ getD cs j 0
+unfolding raisedAt
+other-cell n at cs j h m = getD-mapCells (λ i c. cond (member i at) (raised n c) c) j cs h ∙ ap (λ q. cond q (raised n (getD cs j 0)) (getD cs j 0)) m
+
+-- the k-th of a row's cells in filter f is one of them, and among the counters
+row-cell : (bank f k : ℕ) (at : List ℕ) → length at ≡ 4 → k < 4 → T (member (counterCell bank f (getD at k 0)) (map (counterCell bank f) at))
+row-cell bank f k at four h = member-map (counterCell bank f) (getD at k 0) at (member-cell at k (omega arith))
+
+cell-lt : (bank f k : ℕ) (at cs : List ℕ) → Within at → k < 4 → f < 2 → bank * 2048 + 2048 ≤ length cs → counterCell bank f (getD at k 0) < length cs
+cell-lt bank f k at cs w h hf long = let p : getD at k 0 < 1024 = within-place at k w h in omega arith
+
+-- the least of the raised counters is the estimate that the stores leave
+pub row-estimate : (n bank f : ℕ) (at cs : List ℕ) (v0 v1 v2 v3 r : ℕ) → length at ≡ 4 → Within at → f < 2 → bank * 2048 + 2048 ≤ length cs
+    → v0 ≡ raised n (counterAt cs bank f at 0) → v1 ≡ raised n (counterAt cs bank f at 1)
+    → v2 ≡ raised n (counterAt cs bank f at 2) → v3 ≡ raised n (counterAt cs bank f at 3)
+    → r ≡ min (min v0 v1) (min v2 v3) → r ≡ estimate (raisedAt n (map (counterCell bank f) at) cs) bank f at
+unfolding estimate
+row-estimate n bank f at cs v0 v1 v2 v3 r four w hf long e0 e1 e2 e3 er =
+    er ∙ ap₂ min (ap₂ min (e0 ∙ cell 0 (omega arith)) (e1 ∙ cell 1 (omega arith))) (ap₂ min (e2 ∙ cell 2 (omega arith)) (e3 ∙ cell 3 (omega arith)))
+  where
+    cell : (k : ℕ) → k < 4 → raised n (counterAt cs bank f at k) ≡ counterAt (raisedAt n (map (counterCell bank f) at) cs) bank f at k
+    cell k h =
+        sym (raised-cell n (map (counterCell bank f) at) cs (counterCell bank f (getD at k 0)) (cell-lt bank f k at cs w h hf long) (row-cell bank f k at four h))
 
 -- ---- the two filters of a bank
 
@@ -102,3 +142,23 @@ pub counted-row : (n bank : ℕ) (at other cs m z : List ℕ) → length at ≡ 
     → m ≡ raisedAt n (map (counterCell bank 0) at) cs → z ≡ raisedAt n (map (counterCell bank 1) other) m → z ≡ counted n bank (two at other) cs
 counted-row n bank at other cs m z four w four′ w′ em ez =
     ez ∙ ap (λ l. raisedAt n (map (counterCell bank 1) other) l) em ∙ counted-both n bank (two at other) cs (within-all at four w) (within-all other four′ w′)
+
+-- what filter 1 gains leaves the estimate in filter 0
+pub first-estimate : (n bank : ℕ) (at other cs : List ℕ) → length at ≡ 4 → Within at → length other ≡ 4 → Within other → bank * 2048 + 2048 ≤ length cs
+    → estimate (raisedAt n (map (counterCell bank 1) other) cs) bank 0 at ≡ estimate cs bank 0 at
+unfolding estimate
+first-estimate n bank at other cs four w four′ w′ long =
+    ap₂ min (ap₂ min (cell 0 (omega arith)) (cell 1 (omega arith))) (ap₂ min (cell 2 (omega arith)) (cell 3 (omega arith)))
+  where
+    apart : (k : ℕ) → k < 4 → (q : Bool) → member (counterCell bank 0 (getD at k 0)) (map (counterCell bank 1) other) ≡ q → q ≡ false
+    apart k h true e =
+        let p : getD at k 0 < 1024 = within-place at k w h in
+        let b = cell-in bank 1 (counterCell bank 0 (getD at k 0)) other (within-all other four′ w′) (holds _ e) in
+        absurd (omega arith)
+    apart k h false e = refl
+
+    cell : (k : ℕ) → k < 4 → counterAt (raisedAt n (map (counterCell bank 1) other) cs) bank 0 at k ≡ counterAt cs bank 0 at k
+    cell k h =
+        let j = counterCell bank 0 (getD at k 0) in
+        other-cell n (map (counterCell bank 1) other) cs j (cell-lt bank 0 k at cs w h (omega arith) long)
+        (apart k h (member j (map (counterCell bank 1) other)) refl)

@@ -1,4 +1,5 @@
 // What an activation adds to the two counting Bloom filters of its bank, with 16-bit counters, and the row's estimate after it.
+use filter::least;
 ghost use mathlib.Core.Path.{_≡_};
 ghost use mathlib.Core.List.{map};
 ghost use Prim.Native.Nat.{_+_, _*_, _<_, _≤_};
@@ -14,11 +15,11 @@ fn raise(x: u16, n: u16) -> u16
     if x < n { x + 1 } else { x }
 }
 
-// Adds 1 to each distinct counter of a row in filter f of a bank, if it is below n. All four are read before one is stored,
-// so that a counter which two places share is stored twice with the same value.
-fn count_in(counters: &mut [u16], bank: usize, f: usize, at: [usize; 4], n: u16)
+// Adds 1 to each distinct counter of a row in filter f of a bank, if it is below n, and reports the row's estimate then. All four are read before one is
+// stored, so that a counter which two places share is stored twice with the same value.
+fn count_in(counters: &mut [u16], bank: usize, f: usize, at: [usize; 4], n: u16) -> u16
     requires { ⌜ (bank < 16) × (f < 2) × (bank * 2048 + 2048 ≤ length (now counters)) × Within at ⌝ }
-    ensures { λ _. ⌜ now (counters .exit) ≡ raisedAt n (map (counterCell bank f) at) (now (counters .entry)) ⌝ }
+    ensures { λ r. ⌜ (now (counters .exit) ≡ raisedAt n (map (counterCell bank f) at) (now (counters .entry))) × (r ≡ estimate (now (counters .exit)) bank f at) ⌝ }
 {
     let base = bank * 2048 + f * 1024;
     let a0 = base + at[0];
@@ -33,6 +34,7 @@ fn count_in(counters: &mut [u16], bank: usize, f: usize, at: [usize; 4], n: u16)
     counters[a2] = v2;
     counters[a1] = v1;
     counters[a0] = v0;
+    least(least(v0, v1), least(v2, v3))
 }
 
 // Counts an activation of the row with these places in filter 0 and filter 1 of its bank, and reports the row's estimate in filter f after it.
@@ -47,7 +49,7 @@ pub fn count(
     requires { ⌜ (bank < 16) × (bank * 2048 + 2048 ≤ length (now counters)) × (f < 2) × Within at × Within other ⌝ }
     ensures { λ r. ⌜ (now (counters .exit) ≡ counted n bank (two at other) (now (counters .entry))) × (r ≡ estimate (now (counters .exit)) bank f (two at other f)) ⌝ }
 {
-    count_in(counters, bank, 0, at, n);
-    count_in(counters, bank, 1, other, n);
-    filter::bank_estimate(&*counters, bank, at, other, f)
+    let first = count_in(counters, bank, 0, at, n);
+    let second = count_in(counters, bank, 1, other, n);
+    if f == 0 { first } else { second }
 }

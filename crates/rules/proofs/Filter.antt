@@ -78,7 +78,7 @@ counted-le n b at cs j = go (decLt j (length cs))
     go (no h) = let z : length cs ≤ j = omega arith in rw (List·getD-eq-default cs 0 z) (omega arith)
 
 -- a place of the row in filter f names its counter
-member-map : (g : ℕ → ℕ) (x : ℕ) (l : List ℕ) → T (member x l) → T (member (g x) (map g l))
+pub member-map : (g : ℕ → ℕ) (x : ℕ) (l : List ℕ) → T (member x l) → T (member (g x) (map g l))
 member-map g x [] m = m
 member-map g x (y ∷ ys) m = go (or-e (eqb x y) (member x ys) m) (member-map g x ys)
   where
@@ -118,7 +118,7 @@ counted-fits m n b at cs h a = all-mapFrom (λ c. c < m) (λ i c. cond (named b 
 -- ---- the estimate
 
 -- a cell of a list is in the list
-member-cell : (l : List ℕ) (k : ℕ) → k < length l → T (member (getD l k 0) l)
+pub member-cell : (l : List ℕ) (k : ℕ) → k < length l → T (member (getD l k 0) l)
 member-cell [] k h = absurd (omega arith)
 member-cell (x ∷ xs) zero h = or-l (eqb x x) (member x xs) (eqb-refl x)
 member-cell (x ∷ xs) (suc k) h = or-r (eqb (getD xs k 0) x) (member (getD xs k 0) xs) (member-cell xs k (omega arith))

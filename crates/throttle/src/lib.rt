@@ -57,7 +57,8 @@ pub extern "C" fn throttle_setup(
 }
 
 // A request for a row: out gets the answer's number, the wait tick and the openings left.
-// It rules out: a throttle that holds all, opens all, never moves its state, or counts a row that waits.
+// It rules out: a throttle that holds all, opens all, never moves its state, or counts a row that waits; one that tells the openings left of before the
+// opening or of the other filter, caps them, or tells some with a wait.
 #[no_mangle]
 pub extern "C" fn throttle_request(
     setting: &[u64; 9],

@@ -1,17 +1,18 @@
--- `filter_count::count_in` meets its contract: four stores of what the cells held, raised. Args.t4 is the parameter at.
+-- `count_in` meets its contract: four stores of what the cells held, raised, and the least of them. Args.t4 is the parameter at.
+use mathlib.Core.Path.{_≡_, ap₂, _∙_, subst}
+use Prim.Native.Nat.{min}
 use native.Mathlib.Omega.{arith}
-use lib.ListN.{length-set}
-use Rattle.filter_count.proofs.Counting.{row-raised}
+use lib.ListN.{length, length-set}
+use Rattle.filter_count.proofs.Counting.{row-raised, row-estimate}
+use Rattle.rules.specs.Filter.{estimate}
 use borrow.Author.Needs.{needs}
 use Rattle.filter_count.proofs.count_in.Statement.{statement}
 use Rattle.filter_count.proofs.count_in.Tie as tie
 
--- the four stores against the rules; what follows are the bounds of sums and indices
-returns : tie.Need-returns
-returns c =
-    let a = c .before .before .before .before .before .before .before .before .before .args in
-    row-raised (a .n) (a .bank) (a .f) (a .t4) (a .counters .now) (c .before .before .before .before .before .before .raise .result) (c .before .before .before .before .raise2 .result) (c .before .before .raise3 .result) (c .raise4 .result)
-    (search needs) (search needs) (search needs) (search needs) (c .before .before .before .before .before .before .raise .ensures) (c .before .before .before .before .raise2 .ensures) (c .before .before .raise3 .ensures) (c .raise4 .ensures)
+
+-- the row has four places
+four : (c : tie.Start) → length (c .args .t4) ≡ 4
+four c = search needs
 
 mul-base : tie.Need-mul-base
 mul-base c = search needs
@@ -106,8 +107,34 @@ mul-counters-4 c = search needs
 slice-write-counters-4 : tie.Need-slice-write-counters-4
 slice-write-counters-4 c = simp length-set (omega arith)
 
+least-requires : tie.Need-least-requires
+least-requires c κs = search needs
+
+least-requires-2 : tie.Need-least-requires-2
+least-requires-2 c κs = search needs
+
+least-requires-3 : tie.Need-least-requires-3
+least-requires-3 c κs = search needs
+
 same-length : tie.Need-same-length
 same-length c = search needs
+
+returns : tie.Need-returns
+returns c =
+    let start = (c .before .before .before .before .before .before .before .before .before .before .before .before) in
+    let v0 = (c .before .before .before .before .before .before .before .before .before) in
+    let v1 = (c .before .before .before .before .before .before .before) in
+    let v2 = (c .before .before .before .before .before) in
+    let v3 = (c .before .before .before) in
+    let a = start .args in
+    let stores =
+    row-raised (a .n) (a .bank) (a .f) (a .t4) (a .counters .now) (v0 .raise .result) (v1 .raise2 .result) (v2 .raise3 .result) (v3 .raise4 .result)
+    (four start) (start .pre .3) (start .pre .1) (start .pre .2) (v0 .raise .ensures) (v1 .raise2 .ensures) (v2 .raise3 .ensures) (v3 .raise4 .ensures) in
+    let reports =
+    row-estimate (a .n) (a .bank) (a .f) (a .t4) (a .counters .now) (v0 .raise .result) (v1 .raise2 .result) (v2 .raise3 .result) (v3 .raise4 .result) (c .least3 .result)
+    (four start) (start .pre .3) (start .pre .1) (start .pre .2) (v0 .raise .ensures) (v1 .raise2 .ensures) (v2 .raise3 .ensures) (v3 .raise4 .ensures)
+    (c .least3 .ensures ∙ ap₂ min (c .before .before .least .ensures) (c .before .least2 .ensures)) in
+    (stores, rw stores reports)
 
 pub count-in-spec : {M : Type 1} → statement M
 count-in-spec =
@@ -144,5 +171,8 @@ count-in-spec =
     slice-write-counters-3
     mul-counters-4
     slice-write-counters-4
+    least-requires
+    least-requires-2
+    least-requires-3
     same-length
     returns)
