@@ -6,14 +6,15 @@ use mathlib.Core.List.{List}
 use native.Mathlib.Omega.{arith}
 use lib.Dec.{leb}
 use lib.ListN.{getD}
+use Rattle.head.specs.declared.Head.{Head}
+use Rattle.head.specs.Head.{movedHead}
 use Rattle.rules.specs.declared.Setting.{Setting}
 use Rattle.rules.specs.declared.Limits.{Limits}
-use Rattle.rules.specs.declared.Head.{Head}
 use Rattle.rules.specs.declared.Decision.{Decision}
 use Rattle.rules.specs.declared.Decision.the-variants.{Open, Hold, OverQuota}
 use Rattle.rules.specs.declared.Answer.{Answer}
 use Rattle.rules.specs.State.{State, countersUsed, threadsUsed, threadCell, state}
-use Rattle.rules.specs.Clock.{epoch, turnedCounters, turnedThreads, movedHead, turned}
+use Rattle.rules.specs.Clock.{epoch, turnedCounters, turnedThreads, turned}
 use Rattle.rules.specs.Hash.{places}
 use Rattle.rules.specs.Filter.{Within, blacklisted}
 use Rattle.rules.specs.Policy.{Policy, limits01, inForce}

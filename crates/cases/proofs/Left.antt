@@ -1,13 +1,14 @@
 -- The cases of document 02, e, by computation.
 use mathlib.Core.Path.{refl}
+use Rattle.head.specs.Head.{movedHead, nextPlace, activatedHead}
 use Rattle.rules.specs.Setting.{settingOf, historyLength, rowBound, fieldsInRange, seedsInRange, settingRefusal}
 use Rattle.rules.specs.State.{headOf, tooShort, freshHead, fresh}
-use Rattle.rules.specs.Clock.{turnedCounters, turnedThreads, movedHead, turned}
+use Rattle.rules.specs.Clock.{turnedCounters, turnedThreads, turned}
 use Rattle.rules.specs.Hash.{hash, places}
 use Rattle.rules.specs.Filter.{estimate, raised, named, counted}
-use Rattle.rules.specs.History.{nextPlace, back, neverRises, memoryOk, rowFree}
+use Rattle.rules.specs.History.{back, neverRises, memoryOk, rowFree}
 use Rattle.rules.specs.Quota.{halfEven, quotaEven, inFlightTotal}
-use Rattle.rules.specs.Decision.{passesAt, waitTick, decide, activatedHead, activatedThreads, activated}
+use Rattle.rules.specs.Decision.{passesAt, waitTick, decide, activatedThreads, activated}
 use Rattle.rules.specs.Calls.{setupRefusal, callRefusal, unlessRefused, requested, step}
 use Rattle.rules.specs.Samples.{house}
 use Rattle.cases.specs.Cases.{before}

@@ -7,6 +7,7 @@ use native.Mathlib.Omega.{arith}
 use lib.Dec.{eqb}
 use lib.ListN.{length}
 use borrow.Author.Tests.{eq-eqb, ne-eqb}
+use Rattle.head.specs.declared.Head.{Head}
 use Rattle.rules.specs.State.{freshHead, state}
 use Rattle.log_format.specs.Bytes.{blockAt, blocksFrom}
 use Rattle.log_format.specs.Verdict.{Verdict, Running, Step, over, on, memory, ended, verdictOf, judgeStart, judgeSound, judgeBlock, judgeBlocks, unread, verdict}
@@ -18,7 +19,6 @@ use Rattle.checker_reading.specs.declared.Reading.{Reading}
 use Rattle.judge.specs.Follow.{progressOf, reportOf, Follows}
 use Rattle.checker_reading.specs.Blocks.{readSoFar, Ready, JudgedBlock}
 use Rattle.checker_records.proofs.Steps.{not-both}
-use Rattle.rules.specs.declared.Head.{Head}
 use Rattle.rules.specs.Policy.{limits01, narrow}
 
 -- ---- before the first block

@@ -2,7 +2,7 @@
 // the input. A block is judged only through its contract; the report is proved to be the one of the log's definition of the verdict.
 use checker_block::judge_block;
 use checker_reading::Reading;
-use rules::Head;
+use head::Head;
 use rules::Setting;
 use tally::Progress;
 use tally::Report;

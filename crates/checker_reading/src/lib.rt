@@ -1,6 +1,6 @@
 // A log that is read so far and what a block makes of it, as the types and the promise that the judging of each kind of block shares; with the
 // laws that its proofs apply. No function stands here.
-use rules::Head;
+use head::Head;
 use rules::Setting;
 use tally::Progress;
 use tally::Report;

@@ -1,7 +1,7 @@
 // The records of a block of a log, one by one up to the first event. The judging of one record and the reading of the block are called only through
 // their contracts.
+use head::Head;
 use judge::entry::judge_record;
-use rules::Head;
 use rules::Setting;
 use tally::After;
 use tally::Progress;

@@ -3,15 +3,16 @@ use mathlib.Core.Path.{_≡_, refl}
 use mathlib.Core.List.{List}
 use Prim.Native.Nat.{ℕ}
 use lib.ListN.{length, length-set}
+use Rattle.head.specs.declared.Head.{Head}
+use Rattle.head.specs.Head.{movedHead, activatedHead}
 use Rattle.rules.specs.declared.Setting.{Setting}
-use Rattle.rules.specs.declared.Head.{Head}
 use Rattle.rules.specs.declared.Decision.{Decision}
 use Rattle.rules.specs.declared.Decision.the-variants.{Open, Hold, OverQuota}
 use Rattle.rules.specs.State.{State, headOf, headWords, freshHead, fresh}
-use Rattle.rules.specs.Clock.{movedHead, turned}
+use Rattle.rules.specs.Clock.{turned}
 use Rattle.rules.specs.Hash.{places}
 use Rattle.rules.specs.Policy.{Policy}
-use Rattle.rules.specs.Decision.{decide, activatedHead, activated}
+use Rattle.rules.specs.Decision.{decide, activated}
 use Rattle.rules.specs.Calls.{Call, request, done, index, afterDecision, requested, reported, indexShown, performed}
 use Rattle.rules.proofs.Cells.{cells-all}
 

@@ -1,7 +1,7 @@
 -- What a call of the C interface finds and leaves: its return code, the words it writes, the head's words and the four buffers.
 use Prim.Native.Nat.{ℕ}
 use mathlib.Core.List.{List}
-use Rattle.rules.specs.declared.Head.{Head}
+use Rattle.head.specs.declared.Head.{Head}
 use Rattle.rules.specs.State.{State, state, headOf, headWords}
 use Rattle.rules.specs.Calls.{Reply, refused, answered, finished, shown, Outcome, returnCode, outWords}
 

@@ -1,6 +1,6 @@
 // A record against the model's reply to its call.
+use head::Head;
 use log_format::Entry;
-use rules::Head;
 use rules::Setting;
 use tally::After;
 use tally::Progress;

@@ -5,7 +5,6 @@ use Prim.Native.Nat.{ℕ}
 use lib.ListN.{length}
 use Rattle.rules.specs.declared.Setting.{Setting}
 use Rattle.rules.specs.Answers.{none}
-use Rattle.rules.specs.Setting.{settingRefusal}
 use Rattle.rules.specs.State.{State, fresh}
 use Rattle.rules.specs.Policy.{Policy}
 use Rattle.rules.specs.Calls.{Reply, setupRefusal, activations}

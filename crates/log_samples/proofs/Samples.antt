@@ -5,6 +5,7 @@ use mathlib.Core.List.{List, [], _∷_}
 use Prim.Native.Nat.{ℕ, _-_, _*_, _^_, _≤_, _<_}
 use native.Mathlib.Omega.{arith}
 use lib.ListN.{length, replicate}
+use Rattle.head.specs.Head.{movedHead, nextPlace, activatedHead}
 use Rattle.rules.specs.declared.Cause.the-variants.{Row}
 use Rattle.rules.specs.declared.Answer.the-variants.{Opened, Wait}
 use Rattle.rules.specs.Cells.{All}
@@ -12,12 +13,12 @@ use Rattle.rules.specs.Policy.{narrow}
 use Rattle.rules.specs.Samples.{house, S}
 use Rattle.rules.specs.Setting.{settingOf, historyLength, rowBound, fieldsInRange, seedsInRange, settingRefusal}
 use Rattle.rules.specs.State.{tooShort, freshHead, fresh}
-use Rattle.rules.specs.Clock.{turnedCounters, turnedThreads, movedHead, turned}
+use Rattle.rules.specs.Clock.{turnedCounters, turnedThreads, turned}
 use Rattle.rules.specs.Hash.{hash, places}
 use Rattle.rules.specs.Filter.{estimate, raised, named, counted}
-use Rattle.rules.specs.History.{nextPlace, back, neverRises, memoryOk, rowFree}
+use Rattle.rules.specs.History.{back, neverRises, memoryOk, rowFree}
 use Rattle.rules.specs.Quota.{halfEven, quotaEven, inFlightTotal}
-use Rattle.rules.specs.Decision.{passesAt, waitTick, decide, activatedHead, activatedThreads, activated}
+use Rattle.rules.specs.Decision.{passesAt, waitTick, decide, activatedThreads, activated}
 use Rattle.rules.specs.Calls.{Reply, answered, activations, setupRefusal, callRefusal, doneRefusal, unlessRefused, requested, reported, step}
 use Rattle.log_format.specs.Bytes.{little, bytesOf, zeros, blockAt}
 use Rattle.log_format.specs.Contents.{settingIn, halves, seedsIn, entryIn}

@@ -4,8 +4,8 @@ use mathlib.Core.List.{List}
 use mathlib.Core.Bool.{Bool, _&&_}
 use lib.Dec.{ltb}
 use lib.ListN.{getD}
+use Rattle.head.specs.declared.Head.{Head}
 use Rattle.rules.specs.declared.Setting.{Setting}
-use Rattle.rules.specs.declared.Head.{Head}
 use Rattle.rules.specs.Cells.{every}
 use Rattle.rules.specs.Setting.{historyLength}
 use Rattle.rules.specs.History.{notAfter, neverRises}

@@ -5,12 +5,13 @@ use mathlib.Core.List.{List}
 use mathlib.Core.Bool.{Bool}
 use native.Mathlib.Omega.{arith}
 use lib.ListN.{set}
+use Rattle.head.specs.Head.{activatedHead}
 use Rattle.rules.specs.declared.Setting.{Setting}
 use Rattle.rules.specs.Setting.{historyLength}
 use Rattle.rules.specs.State.{State, rowWord}
 use Rattle.rules.specs.Clock.{epoch}
 use Rattle.rules.specs.Filter.{estimate, blacklisted, counted}
-use Rattle.rules.specs.Decision.{activeEstimate, activatedHead, activatedThreads, activated}
+use Rattle.rules.specs.Decision.{activeEstimate, activatedThreads, activated}
 use Rattle.decision.specs.Numbers.{passiveEstimate}
 
 -- the two estimates that the code reads, with e the epoch of the last tick

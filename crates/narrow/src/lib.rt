@@ -1,13 +1,14 @@
 // The moves of a state with 16-bit filters: set-up, its clock, what the decision on a request looks at, and an activation. Each joins what the filters do to
 // what the crate `state` does to the rest. All on a state that passed the tests.
 use decision::View;
-use rules::Head;
+use head::Head;
 use rules::Setting;
 ghost use mathlib.Core.Path.{_≡_};
 ghost use Prim.Native.Nat.{_≤_, _<_};
 ghost use lib.ListN.{length, getD};
+ghost use Rattle.head.specs.Head.{movedHead};
 ghost use Rattle.rules.specs.State.{countersUsed, threadsUsed, threadCell, state, freshHead, fresh};
-ghost use Rattle.rules.specs.Clock.{epoch, turnedCounters, turnedThreads, movedHead};
+ghost use Rattle.rules.specs.Clock.{epoch, turnedCounters, turnedThreads};
 ghost use Rattle.rules.specs.Filter.{Within, two, blacklisted};
 ghost use Rattle.rules.specs.Policy.{narrow};
 ghost use Rattle.rules.specs.Decision.{activeEstimate, activated};

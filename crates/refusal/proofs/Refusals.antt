@@ -7,9 +7,9 @@ use mathlib.Core.Bool.{Bool, true, false, not, _||_}
 use native.Mathlib.Omega.{arith}
 use lib.Dec.{leb, ltb, nltb→le, nleb→lt}
 use lib.ListN.{length}
+use Rattle.head.specs.declared.Head.{Head}
 use Rattle.rules.specs.declared.Setting.{Setting}
 use Rattle.rules.specs.declared.Limits.{Limits}
-use Rattle.rules.specs.declared.Head.{Head}
 use Rattle.rules.specs.Answers.{Refusal, none, shortBuffer, badMemory, outsideSetting, refusalNumber, refuse, orElse}
 use Rattle.rules.specs.Setting.{historyLength, settingRefusal}
 use Rattle.rules.specs.State.{State, countersUsed, threadsUsed, tooShort}

@@ -4,9 +4,9 @@ use mathlib.Core.List.{List}
 use mathlib.Core.Bool.{Bool, true, not, _&&_}
 use lib.Dec.{eqb}
 use lib.ListN.{length, getD}
+use Rattle.head.specs.declared.Head.{Head}
 use Rattle.rules.specs.declared.Setting.{Setting}
 use Rattle.rules.specs.declared.Limits.{Limits}
-use Rattle.rules.specs.declared.Head.{Head}
 use Rattle.rules.specs.Answers.{Refusal, none, badMemory, noneInFlight, refuse, orElse}
 use Rattle.rules.specs.State.{threadCell}
 use Rattle.memory.specs.Memory.{memoryTest}

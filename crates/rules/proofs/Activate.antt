@@ -10,16 +10,17 @@ use native.Mathlib.Nat.{le-refl, le-trans}
 use lib.Dec.{T, leb, eqb, leb→le, nleb→lt, eqb→eq, T-not}
 use lib.ListN.{getD, set, drop, length-set}
 use lib.Seq.{getD-set-same, getD-set-other}
+use Rattle.head.specs.Head.{nextPlace, cells, activatedHead}
 use Rattle.rules.specs.declared.Setting.{Setting}
 use Rattle.rules.specs.declared.Limits.{Limits}
 use Rattle.rules.specs.Cells.{ceilDiv, more, All}
 use Rattle.rules.specs.Setting.{historyLength}
-use Rattle.rules.specs.State.{State, counterCell, rowWord, cells}
+use Rattle.rules.specs.State.{State, counterCell, rowWord}
 use Rattle.rules.specs.Clock.{epoch, activeFilter}
 use Rattle.rules.specs.Hash.{places}
 use Rattle.rules.specs.Filter.{blacklisted, counted}
-use Rattle.rules.specs.History.{nextPlace, back, rowFree}
-use Rattle.rules.specs.Decision.{passed, bankRule, rankRule, activeEstimate, rowRule, activatedHead, activated}
+use Rattle.rules.specs.History.{back, rowFree}
+use Rattle.rules.specs.Decision.{passed, bankRule, rankRule, activeEstimate, rowRule, activated}
 use Rattle.rules.specs.Calls.{Activation, ofRow}
 use Rattle.rules.proofs.Tests.{or-e, holds}
 use Rattle.rules.proofs.Cells.{getD-first}

@@ -9,9 +9,10 @@ use native.Mathlib.Decide.{decLt, ℕ-discrete}
 use lib.Arith.{digits-lt}
 use lib.ListN.{length, getD, set, length-set}
 use lib.Seq.{ext-getD, getD-set-same, getD-set-other, set-out}
+use Rattle.head.specs.Head.{cells}
 use Rattle.rules.specs.declared.Setting.{Setting}
 use Rattle.rules.specs.Cells.{mapFrom, mapCells, All}
-use Rattle.rules.specs.State.{threadsUsed, threadCell, cells}
+use Rattle.rules.specs.State.{threadsUsed, threadCell}
 
 pub length-mapFrom : (f : ℕ → ℕ → ℕ) (i : ℕ) (cs : List ℕ) → length (mapFrom f i cs) ≡ length cs
 length-mapFrom f i [] = refl

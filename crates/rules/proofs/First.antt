@@ -8,6 +8,7 @@ use lib.Dec.{T, ltb, lt→ltb}
 use lib.Arith.{lt→nleb}
 use borrow.Author.Tests.{lt-leb, le-ltb}
 use lib.ListN.{getD, getD-replicate}
+use Rattle.head.specs.Head.{movedHead}
 use Rattle.rules.specs.declared.Setting.{Setting}
 use Rattle.rules.specs.declared.Limits.{Limits}
 use Rattle.rules.specs.declared.Answer.the-variants.{Opened}
@@ -15,7 +16,7 @@ use Rattle.rules.specs.Cells.{clearCells}
 use Rattle.rules.specs.Answers.{none, shortBuffer, refuse}
 use Rattle.rules.specs.Setting.{settingRefusal}
 use Rattle.rules.specs.State.{State, countersUsed, threadsUsed, counterCell, threadCell, tooShort, freshHead, fresh}
-use Rattle.rules.specs.Clock.{epoch, clears, activeFilter, turnedCounters, turnedThreads, movedHead, turned}
+use Rattle.rules.specs.Clock.{epoch, clears, activeFilter, turnedCounters, turnedThreads, turned}
 use Rattle.rules.specs.Hash.{places}
 use Rattle.rules.specs.Filter.{Within, estimate, blacklisted}
 use Rattle.rules.specs.History.{memoryOk}

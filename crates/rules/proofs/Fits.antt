@@ -7,21 +7,22 @@ use native.Mathlib.Omega.{arith}
 use native.Mathlib.Nat.{add-zero, div-le-self}
 use lib.Dec.{T, ltb, ltb→lt, lit<}
 use lib.ListN.{getD, set, replicate}
+use Rattle.head.specs.declared.Head.{Head}
+use Rattle.head.specs.Head.{movedHead, cells, activatedHead}
 use Rattle.rules.specs.declared.Setting.{Setting}
 use Rattle.rules.specs.declared.Limits.{Limits}
-use Rattle.rules.specs.declared.Head.{Head}
 use Rattle.rules.specs.declared.Decision.{Decision}
 use Rattle.rules.specs.declared.Decision.the-variants.{Open, Hold, OverQuota}
 use Rattle.rules.specs.Cells.{clearCells, All}
 use Rattle.rules.specs.Setting.{historyLength, indexScale}
-use Rattle.rules.specs.State.{State, countersUsed, threadsUsed, threadCell, rowWord, cells, headWords, freshHead, fresh}
-use Rattle.rules.specs.Clock.{epoch, clears, activeFilter, turnedCounters, turnedThreads, movedHead, turned}
+use Rattle.rules.specs.State.{State, countersUsed, threadsUsed, threadCell, rowWord, headWords, freshHead, fresh}
+use Rattle.rules.specs.Clock.{epoch, clears, activeFilter, turnedCounters, turnedThreads, turned}
 use Rattle.rules.specs.Hash.{places}
 use Rattle.rules.specs.Filter.{raised}
 use Rattle.rules.specs.Quota.{indexCounter}
 use Rattle.rules.specs.Policy.{Policy}
 use Rattle.rules.specs.Tested.{Ranges, Accepted, Taken}
-use Rattle.rules.specs.Decision.{quotaRule, decide, activatedHead, activatedThreads, activated}
+use Rattle.rules.specs.Decision.{quotaRule, decide, activatedThreads, activated}
 use Rattle.rules.specs.Calls.{Call, request, done, index, callTick, callBank, callThread, performed, refusalOf, afterDecision, requested, reported, indexShown, step, after}
 use Rattle.rules.specs.Claims.{Regular, Fits, Stored, RowFits, StepFits, RunFits}
 use Rattle.rules.proofs.Cells.{set-cell, all-mapFrom, getD-first}

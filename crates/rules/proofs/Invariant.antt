@@ -4,8 +4,8 @@ use mathlib.Core.List.{List, map}
 use Prim.Native.Nat.{ℕ, _+_, _*_, _%_, _≤_, _<_, min}
 use lib.Dec.{T}
 use lib.ListN.{length, getD, drop}
+use Rattle.head.specs.declared.Head.{Head}
 use Rattle.rules.specs.declared.Setting.{Setting}
-use Rattle.rules.specs.declared.Head.{Head}
 use Rattle.rules.specs.Cells.{member, All}
 use Rattle.rules.specs.Setting.{historyLength, seedsInRange}
 use Rattle.rules.specs.State.{State, counterCell, rowWord}

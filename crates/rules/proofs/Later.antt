@@ -9,6 +9,7 @@ use native.Mathlib.Decide.{ℕ-discrete, decLt}
 use lib.Dec.{T, ltb, ltb→lt, T-not}
 use lib.ListN.{length}
 use borrow.Author.Tests.{lt-leb, le-ltb, eq-eqb}
+use Rattle.head.specs.Head.{movedHead}
 use Rattle.rules.specs.declared.Setting.{Setting}
 use Rattle.rules.specs.declared.Limits.{Limits}
 use Rattle.rules.specs.declared.Cause.{Cause}
@@ -19,7 +20,7 @@ use Rattle.rules.specs.declared.Answer.the-variants.{Opened, Wait}
 use Rattle.rules.specs.Answers.{none, answerWait}
 use Rattle.rules.specs.Setting.{epochLength, settingRefusal}
 use Rattle.rules.specs.State.{State, state, countersUsed, threadsUsed}
-use Rattle.rules.specs.Clock.{epoch, clears, turnedCounters, turnedThreads, movedHead, turned}
+use Rattle.rules.specs.Clock.{epoch, clears, turnedCounters, turnedThreads, turned}
 use Rattle.rules.specs.Hash.{places}
 use Rattle.rules.specs.History.{memoryOk}
 use Rattle.rules.specs.Policy.{Policy}

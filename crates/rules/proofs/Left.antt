@@ -8,15 +8,14 @@ use native.Mathlib.Decide.{decLe}
 use lib.Dec.{T, ltb}
 use lib.ListN.{length, getD}
 use borrow.Author.Tests.{ltb-false}
-use Rattle.rules.specs.declared.Setting.{Setting}
+use Rattle.head.specs.Head.{activatedHead}
 use Rattle.rules.specs.declared.Answer.the-variants.{Opened}
 use Rattle.rules.specs.Setting.{seedsInRange}
-use Rattle.rules.specs.State.{State, countersUsed, counterCell}
 use Rattle.rules.specs.Clock.{activeFilter, turned}
 use Rattle.rules.specs.Hash.{places}
 use Rattle.rules.specs.Filter.{counterAt, estimate, raised, counted}
 use Rattle.rules.specs.Policy.{Policy}
-use Rattle.rules.specs.Decision.{decide, activatedHead, activated, openingsLeft}
+use Rattle.rules.specs.Decision.{decide, activated, openingsLeft}
 use Rattle.rules.specs.Claims.{LeftAfter, LeftOfOpened}
 use Rattle.rules.proofs.Accept.{taken}
 use Rattle.rules.proofs.Places.{place-lt}

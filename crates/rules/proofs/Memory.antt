@@ -9,14 +9,15 @@ use native.Mathlib.Nat.{le-refl}
 use lib.Dec.{T, leb, ltb, eqb, leb→le, le→leb, ltb→lt, lt→ltb, eqb→eq}
 use lib.ListN.{length, getD, set, length-set, getD-replicate}
 use lib.Seq.{getD-set-same, getD-set-other}
+use Rattle.head.specs.Head.{movedHead, nextPlace, cells, activatedHead}
 use Rattle.rules.specs.declared.Setting.{Setting}
 use Rattle.rules.specs.declared.Limits.{Limits}
 use Rattle.rules.specs.Cells.{every, clearCells}
 use Rattle.rules.specs.Setting.{historyLength}
-use Rattle.rules.specs.State.{State, countersUsed, threadsUsed, cells, freshHead, fresh}
-use Rattle.rules.specs.Clock.{movedHead, turned}
-use Rattle.rules.specs.History.{nextPlace, back, notAfter, neverRises, memoryOk}
-use Rattle.rules.specs.Decision.{activatedHead, activatedThreads, activated}
+use Rattle.rules.specs.State.{State, countersUsed, threadsUsed, freshHead, fresh}
+use Rattle.rules.specs.Clock.{turned}
+use Rattle.rules.specs.History.{back, notAfter, neverRises, memoryOk}
+use Rattle.rules.specs.Decision.{activatedThreads, activated}
 use Rattle.rules.specs.Calls.{reported}
 use Rattle.rules.proofs.Tests.{and-i, and-l, and-r, or-r, or-e, every-at, every-all}
 use Rattle.rules.proofs.Cells.{set-cell, getD-first}

@@ -10,7 +10,8 @@ use native.Mathlib.Decide.{decLt, ℕ-discrete}
 use lib.Dec.{T, leb, ltb, eqb, leb→le, le→leb, ltb→lt, lt→ltb, eqb→eq, eqb-refl, not-T, T-not}
 use lib.Arith.{le→nltb}
 use lib.ListN.{getD}
-use Rattle.rules.specs.History.{nextPlace, back, neverRises, matches, rowFree, findFrom, find}
+use Rattle.head.specs.Head.{nextPlace}
+use Rattle.rules.specs.History.{back, neverRises, matches, rowFree, findFrom, find}
 use Rattle.rules.proofs.Tests.{and-i, and-l, and-r, cond-yes, cond-no, every-at, every-all, holds, fails}
 
 -- ---- places

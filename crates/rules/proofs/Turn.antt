@@ -7,12 +7,13 @@ use native.Mathlib.Omega.{arith}
 use native.Mathlib.Decide.{ℕ-discrete}
 use native.Mathlib.Nat.{le-trans, le-div-iff-mul-le, div-mul-le-self}
 use lib.Dec.{T, leb, leb→le, not-T}
+use Rattle.head.specs.Head.{movedHead}
 use Rattle.rules.specs.declared.Setting.{Setting}
 use Rattle.rules.specs.Cells.{member, count, All}
 use Rattle.rules.specs.Setting.{epochLength, seedsInRange}
 use Rattle.rules.specs.declared.Limits.{Limits}
 use Rattle.rules.specs.State.{State, countersUsed}
-use Rattle.rules.specs.Clock.{epoch, clears, turnedCounters, movedHead, turned}
+use Rattle.rules.specs.Clock.{epoch, clears, turnedCounters, turned}
 use Rattle.rules.specs.Hash.{places}
 use Rattle.rules.specs.Calls.{Activation, ofRow}
 use Rattle.rules.proofs.Tests.{and-r, fails}

@@ -2,12 +2,13 @@
 use mathlib.Core.Path.{_≡_, refl, sym, ap, ap₂, _∙_}
 use mathlib.Core.List.{List, [], _∷_}
 use mathlib.Core.Bool.{Bool, true, false, not, _&&_, _||_, cond}
-use Prim.Native.Nat.{ℕ, zero, suc, _+_, _-_, _/_, _%_, _<_}
+use Prim.Native.Nat.{ℕ, suc, _+_, _-_, _/_, _%_, _<_}
 use native.Mathlib.Omega.{arith}
 use native.Mathlib.Decide.{ℕ-discrete}
 use lib.Dec.{T, leb, ltb, eqb, eqb→eq, ltb→lt, lt→ltb}
 use lib.ListN.{length, getD, set, length-set}
 use lib.Seq.{getD-set-same, getD-set-other}
+use Rattle.head.specs.Head.{movedHead, activatedHead}
 use Rattle.rules.specs.declared.Setting.{Setting}
 use Rattle.rules.specs.declared.Limits.{Limits}
 use Rattle.rules.specs.declared.Decision.{Decision}
@@ -16,12 +17,12 @@ use Rattle.rules.specs.Cells.{every, clearCells, leastFrom}
 use Rattle.rules.specs.Answers.{Refusal, none, refusalNumber, refuse, noneInFlight}
 use Rattle.rules.specs.Setting.{historyLength, indexScale, settingRefusal}
 use Rattle.rules.specs.State.{State, countersUsed, threadsUsed, counterCell, threadCell, rowWord, fresh}
-use Rattle.rules.specs.Clock.{epoch, clears, activeFilter, turnedCounters, turnedThreads, movedHead, turned}
+use Rattle.rules.specs.Clock.{epoch, clears, activeFilter, turnedCounters, turnedThreads, turned}
 use Rattle.rules.specs.Hash.{places}
 use Rattle.rules.specs.Filter.{Within, estimate, blacklisted, raised, named}
 use Rattle.rules.specs.History.{back, notAfter, neverRises, memoryOk, matches, rowFree}
 use Rattle.rules.specs.Policy.{Policy}
-use Rattle.rules.specs.Decision.{passed, quotaRule, bankRule, rankRule, activeEstimate, rowRule, passesAt, waitTick, firstFailing, decide, activatedHead, activatedThreads, activated, answerOf}
+use Rattle.rules.specs.Decision.{passed, quotaRule, bankRule, rankRule, activeEstimate, rowRule, passesAt, waitTick, firstFailing, decide, activatedThreads, activated, answerOf}
 use Rattle.rules.specs.Tested.{Long, Taken}
 use Rattle.rules.specs.Calls.{Call, request, done, index, refused, answered, shown, Outcome, outcome, callRefusal, doneRefusal, callTick, callBank, callThread, refusalOf, unlessRefused, afterDecision, requested, reported, indexShown, performed, step, replies, after}
 use Rattle.rules.specs.Claims.{UsedFlying, SameUsed, withLimits, SameReplies}

@@ -10,11 +10,12 @@ use native.Mathlib.Nat.{div-mul-le-self, lt-div-mul-add}
 use native.Mathlib.Decide.{ℕ-discrete}
 use lib.Dec.{T, leb, eqb, leb→le, le→leb, eqb→eq, not-T, T-not}
 use lib.ListN.{getD}
+use Rattle.head.specs.Head.{movedHead}
 use Rattle.rules.specs.declared.Setting.{Setting}
 use Rattle.rules.specs.declared.Limits.{Limits}
 use Rattle.rules.specs.Setting.{epochLength, historyLength}
 use Rattle.rules.specs.State.{State, rowWord}
-use Rattle.rules.specs.Clock.{epoch, movedHead, turned}
+use Rattle.rules.specs.Clock.{epoch, turned}
 use Rattle.rules.specs.Filter.{Within, estimate, blacklisted}
 use Rattle.rules.specs.History.{rowFree}
 use Rattle.rules.specs.Decision.{passed, activeEstimate, passesAt, waitTick}

@@ -5,9 +5,10 @@ use Prim.Native.Nat.{ℕ, _+_, _*_, _/_, _%_, _≤_, _<_}
 use native.Mathlib.Omega.{arith}
 use native.Mathlib.Nat.{le-refl, le-div-iff-mul-le, div-lt-iff-lt-mul}
 use lib.ListN.{getD}
+use Rattle.head.specs.Head.{movedHead}
 use Rattle.rules.specs.declared.Setting.{Setting}
 use Rattle.rules.specs.State.{State, countersUsed, counterCell}
-use Rattle.rules.specs.Clock.{epoch, turnedCounters, movedHead, turned}
+use Rattle.rules.specs.Clock.{epoch, turnedCounters, turned}
 use Rattle.rules.specs.Filter.{Within, estimate}
 use Rattle.rules.specs.Decision.{activeEstimate}
 use Rattle.rules.proofs.Clock.{next-clears, counters-none, turned-kept}

@@ -3,8 +3,8 @@ use mathlib.Core.List.{List}
 use mathlib.Core.Bool.{Bool, _&&_, _||_}
 use Prim.Native.Nat.{ℕ, _+_, _/_, _%_}
 use lib.Dec.{ltb, eqb}
+use Rattle.head.specs.Head.{movedHead}
 use Rattle.rules.specs.declared.Setting.{Setting}
-use Rattle.rules.specs.declared.Head.{Head}
 use Rattle.rules.specs.Cells.{clearCells}
 use Rattle.rules.specs.Setting.{epochLength}
 use Rattle.rules.specs.State.{State, countersUsed, threadsUsed}
@@ -28,10 +28,6 @@ turnedCounters used e e′ cs = clearCells (λ i. ltb i used && clears e e′ (i
 -- "two counters, cleared as the filters are"; in flight stays
 unfoldable pub turnedThreads : ℕ → ℕ → ℕ → List ℕ → List ℕ
 turnedThreads used e e′ ts = clearCells (λ i. ltb i used && (ltb (i % 3) 2 && clears e e′ (i % 3))) ts
-
--- "moves the last tick to its tick t"
-unfoldable pub movedHead : Head → ℕ → Head
-movedHead h t = record { last = t; next = h .next; bank = h .bank; rank = h .rank }
 
 -- the state when the clock has moved to t
 unfoldable pub turned : Setting → State → ℕ → State

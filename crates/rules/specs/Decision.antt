@@ -1,11 +1,11 @@
 -- The decision on a request, the wait tick, and what an activation changes. The state's clock stands at the request's tick.
-use mathlib.Core.List.{List, _∷_}
+use mathlib.Core.List.{List}
 use mathlib.Core.Bool.{Bool, true, false, not, _&&_, _||_, cond}
 use Prim.Native.Nat.{ℕ, _+_, _-_}
 use lib.Dec.{leb, ltb, eqb}
 use lib.ListN.{getD, set}
+use Rattle.head.specs.Head.{activatedHead}
 use Rattle.rules.specs.declared.Setting.{Setting}
-use Rattle.rules.specs.declared.Head.{Head}
 use Rattle.rules.specs.declared.Cause.the-variants.{Bank, Rank, Row}
 use Rattle.rules.specs.declared.Decision.{Decision}
 use Rattle.rules.specs.declared.Decision.the-variants.{Open, Hold, OverQuota}
@@ -13,10 +13,10 @@ use Rattle.rules.specs.declared.Answer.{Answer}
 use Rattle.rules.specs.declared.Answer.the-variants.{Opened, Wait, Quota}
 use Rattle.rules.specs.Cells.{leastFrom}
 use Rattle.rules.specs.Setting.{historyLength, indexScale}
-use Rattle.rules.specs.State.{State, threadCell, rowWord, cells}
+use Rattle.rules.specs.State.{State, threadCell, rowWord}
 use Rattle.rules.specs.Clock.{activeFilter, turned}
 use Rattle.rules.specs.Filter.{estimate, blacklisted, raised, counted}
-use Rattle.rules.specs.History.{nextPlace, rowFree}
+use Rattle.rules.specs.History.{rowFree}
 use Rattle.rules.specs.Quota.{indexCounter}
 use Rattle.rules.specs.Policy.{Policy}
 
@@ -68,16 +68,6 @@ firstFailing true true true true u = Open
 unfoldable pub decide : Policy → Setting → (ℕ → List ℕ) → State → ℕ → ℕ → ℕ → Decision
 decide p s at st bank thread row =
     firstFailing (quotaRule p s st bank thread) (bankRule s st bank) (rankRule s st) (rowRule s at st bank row) (waitTick s at st bank row)
-
--- The head after an activation: the bank's tick, the rank's four shifted, the next place moved on. A kept tick is stored plus one.
-unfoldable pub activatedHead : ℕ → Head → ℕ → Head
-activatedHead h d bank =
-    record {
-      last = d .last;
-      next = nextPlace h (d .next);
-      bank = set (d .bank) bank (d .last + 1);
-      rank = (d .last + 1) ∷ cells (d .rank) 0 3;
-    }
 
 -- One more in flight; both index counters "count openings of rows blacklisted when opened, up to D".
 unfoldable pub activatedThreads : Setting → List ℕ → ℕ → ℕ → Bool → List ℕ

@@ -9,10 +9,6 @@ use Rattle.rules.specs.Cells.{every}
 use Rattle.rules.specs.Setting.{historyLength}
 use Rattle.rules.specs.State.{State}
 
--- "An opening is written at the next history place, which then moves on by one, from H − 1 to 0."
-unfoldable pub nextPlace : ℕ → ℕ → ℕ
-nextPlace h p = cond (eqb (p + 1) h) 0 (p + 1)
-
 -- the place i steps back from the newest, in a ring of h places whose next one is p
 unfoldable pub back : ℕ → ℕ → ℕ → ℕ
 back h p i = cond (ltb i p) (p - 1 - i) (p + h - 1 - i)

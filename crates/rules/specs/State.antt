@@ -1,11 +1,12 @@
 -- The state: the head, the four buffers with the order of their cells, and what set-up leaves.
-use mathlib.Core.List.{List, [], _∷_, _++_}
+use mathlib.Core.List.{List, _∷_, _++_}
 use mathlib.Core.Bool.{Bool, _||_}
-use Prim.Native.Nat.{ℕ, zero, suc, _+_, _*_}
+use Prim.Native.Nat.{ℕ, _+_, _*_}
 use lib.Dec.{ltb}
 use lib.ListN.{length, getD, replicate}
+use Rattle.head.specs.declared.Head.{Head}
+use Rattle.head.specs.Head.{cells}
 use Rattle.rules.specs.declared.Setting.{Setting}
-use Rattle.rules.specs.declared.Head.{Head}
 use Rattle.rules.specs.Cells.{clearCells}
 use Rattle.rules.specs.Setting.{historyLength}
 
@@ -39,11 +40,6 @@ threadCell s bank thread k = (bank * s .threads + thread) * 3 + k
 -- "history rows (.. bank × 65,536 + row ..)"
 abbrev pub rowWord : ℕ → ℕ → ℕ
 rowWord bank row = bank * 65536 + row
-
--- the n cells from cell i on
-abbrev pub cells : List ℕ → ℕ → ℕ → List ℕ
-cells w i zero = []
-cells w i (suc n) = getD w i 0 ∷ cells w (suc i) n
 
 -- The head lies in 22 words: the last tick, the next history place, sixteen banks, the rank's four, newest first.
 unfoldable pub headOf : List ℕ → Head

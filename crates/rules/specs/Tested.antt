@@ -4,9 +4,9 @@ use mathlib.Core.List.{List}
 use Prim.Native.Nat.{ℕ, _+_, _*_, _-_, _%_, _^_, _≤_, _<_}
 use lib.Dec.{T}
 use lib.ListN.{length, getD}
+use Rattle.head.specs.declared.Head.{Head}
 use Rattle.rules.specs.declared.Setting.{Setting}
 use Rattle.rules.specs.declared.Limits.{Limits}
-use Rattle.rules.specs.declared.Head.{Head}
 use Rattle.rules.specs.Setting.{epochLength, historyLength, rowBound, seedsInRange}
 use Rattle.rules.specs.State.{State, countersUsed, threadsUsed}
 use Rattle.rules.specs.History.{neverRises, memoryOk}

@@ -1,9 +1,9 @@
 // The calls for callers in Rattle that own their memory, such as a log checker: set-up, and request and done on a state that passed the tests
 // of refusals 1 to 7, which each call keeps. Only bank, thread, tick and what is in flight are tested, so no call reads the whole history.
 // Done stands here; set-up and request are exported again.
+use head::Head;
 use refusal::flying_refusal;
 use refusal::place_refusal;
-use rules::Head;
 use rules::Setting;
 ghost use mathlib.Core.Path.{_≡_};
 ghost use Rattle.rules.specs.Answers.{none};

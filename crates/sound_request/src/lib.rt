@@ -1,7 +1,7 @@
 // A request for callers in Rattle, on a state that passed the tests of refusals 1 to 7, which it keeps. Only bank, thread and tick are tested.
+use head::Head;
 use refusal::place_refusal;
 use rules::Answer;
-use rules::Head;
 use rules::Setting;
 ghost use mathlib.Core.Path.{_≡_};
 ghost use Rattle.rules.specs.Answers.{none};

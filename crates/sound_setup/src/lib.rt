@@ -1,6 +1,6 @@
 // Set-up for callers in Rattle that own their memory. Where it is not refused, the state passes the tests of refusals 1 to 7.
+use head::Head;
 use refusal::setup_refusal;
-use rules::Head;
 use rules::Setting;
 ghost use Rattle.rules.specs.State.{state};
 ghost use Rattle.rules.specs.Policy.{limits01};

@@ -6,14 +6,15 @@ use mathlib.Core.List.{List}
 use mathlib.Core.Bool.{Bool, true, false}
 use lib.Dec.{eqb}
 use lib.ListN.{getD}
+use Rattle.head.specs.declared.Head.{Head}
+use Rattle.head.specs.Head.{movedHead}
 use Rattle.rules.specs.declared.Setting.{Setting}
 use Rattle.rules.specs.declared.Limits.{Limits}
-use Rattle.rules.specs.declared.Head.{Head}
 use Rattle.rules.specs.declared.Answer.{Answer}
 use Rattle.rules.specs.Answers.{Refusal, none, shortBuffer, noneInFlight, refusalNumber, refuse}
 use Rattle.rules.specs.Setting.{settingRefusal}
 use Rattle.rules.specs.State.{State, countersUsed, threadsUsed, threadCell, state, tooShort, fresh}
-use Rattle.rules.specs.Clock.{epoch, turnedCounters, turnedThreads, movedHead, turned}
+use Rattle.rules.specs.Clock.{epoch, turnedCounters, turnedThreads, turned}
 use Rattle.rules.specs.History.{memoryOk}
 use Rattle.rules.specs.Policy.{limits01}
 use Rattle.rules.specs.Tested.{Taken, Sound}

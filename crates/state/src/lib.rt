@@ -1,14 +1,15 @@
 // How the state moves apart from the filters, the clock and an activation, and what the decision on a request looks at. All on a state that
 // passed the tests; no function here knows the width of a counter.
-use rules::Head;
+use head::Head;
 use rules::Setting;
 ghost use mathlib.Core.Path.{_≡_};
 ghost use Prim.Native.Nat.{_+_, _*_, _/_, _^_, _≤_, _<_};
 ghost use lib.ListN.{length, getD, set};
+ghost use Rattle.head.specs.Head.{movedHead, activatedHead};
 ghost use Rattle.rules.specs.Setting.{historyLength};
 ghost use Rattle.rules.specs.State.{threadsUsed, threadCell, rowWord};
-ghost use Rattle.rules.specs.Clock.{epoch, turnedThreads, movedHead};
-ghost use Rattle.rules.specs.Decision.{activatedHead, activatedThreads};
+ghost use Rattle.rules.specs.Clock.{epoch, turnedThreads};
+ghost use Rattle.rules.specs.Decision.{activatedThreads};
 ghost use Rattle.state.specs.Ready.{Bounds, Ready};
 
 pub mod look;

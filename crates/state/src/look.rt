@@ -1,7 +1,7 @@
 // What the decision on a request looks at, read from the state.
 use crate::row_word;
 use decision::View;
-use rules::Head;
+use head::Head;
 use rules::Setting;
 ghost use mathlib.Core.Path.{_≡_};
 ghost use mathlib.Core.Bool.{_&&_, cond};

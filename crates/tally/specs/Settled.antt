@@ -2,7 +2,7 @@
 use mathlib.Core.Bool.{true, not, _&&_}
 use Prim.Native.Nat.{ℕ, _+_, _^_, _≤_}
 use lib.Dec.{eqb}
-use Rattle.rules.specs.declared.Head.{Head}
+use Rattle.head.specs.declared.Head.{Head}
 use Rattle.log_format.specs.declared.Entry.{Entry}
 use Rattle.tally.specs.declared.Progress.{Progress}
 use Rattle.tally.specs.declared.Report.the-variants.{Refused, Differs}

@@ -1,7 +1,7 @@
 // What is counted and reported of one record of a log: how far a log is read, what is said of it, and the step from the model's reply, as numbers,
 // to both. No buffer of the model is known here.
+use head::Head;
 use log_format::Entry;
-use rules::Head;
 ghost use mathlib.Core.Path.{_≡_};
 ghost use mathlib.Core.Bool.{_&&_, cond};
 ghost use Prim.Native.Nat.{_≤_};

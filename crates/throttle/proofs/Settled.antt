@@ -1,20 +1,21 @@
 -- What an exported call leaves, refused or not.
-use Prim.Native.Nat.{ℕ, _+_, _-_, _<_}
+use Prim.Native.Nat.{ℕ, _+_, _<_}
 use mathlib.Core.Path.{_≡_, refl, sym, ap, _∙_}
 use mathlib.Core.Logic.{_≢_}
 use mathlib.Core.List.{List, [], _∷_}
 use mathlib.Core.Bool.{false}
 use lib.ListN.{length, getD}
+use Rattle.head.specs.declared.Head.{Head}
+use Rattle.head.specs.Head.{movedHead}
 use Rattle.rules.specs.declared.Limits.{Limits}
 use Rattle.rules.specs.declared.Setting.{Setting}
-use Rattle.rules.specs.declared.Head.{Head}
 use Rattle.rules.specs.declared.Decision.{Decision}
 use Rattle.rules.specs.declared.Decision.the-variants.{Open, Hold, OverQuota}
 use Rattle.rules.specs.declared.Answer.{Answer}
 use Rattle.rules.specs.Answers.{Refusal, refusalNumber, answerNumber, answerWait, answerLeft}
 use Rattle.rules.specs.Setting.{indexScale}
 use Rattle.rules.specs.State.{State, countersUsed, threadsUsed, headOf, headWords, fresh}
-use Rattle.rules.specs.Clock.{epoch, activeFilter, turnedCounters, turnedThreads, movedHead, turned}
+use Rattle.rules.specs.Clock.{epoch, activeFilter, turnedCounters, turnedThreads, turned}
 use Rattle.rules.specs.Hash.{places}
 use Rattle.rules.specs.Quota.{indexCounter}
 use Rattle.rules.specs.Policy.{limits01, narrow}

@@ -1,11 +1,11 @@
 // How the head lies in the caller's 22 words.
 use answers::answer_number;
+use head::Head;
 use rules::Answer;
-use rules::Head;
 ghost use mathlib.Core.Path.{_≡_};
 ghost use mathlib.Core.Logic.{_≢_};
+ghost use Rattle.head.specs.Head.{movedHead};
 ghost use Rattle.rules.specs.State.{headOf, headWords};
-ghost use Rattle.rules.specs.Clock.{movedHead};
 ghost use Rattle.rules.specs.Answers.{answerNumber};
 
 // The head that the 22 words of the caller hold.

@@ -5,10 +5,11 @@ use mathlib.Core.List.{List}
 use mathlib.Core.Bool.{true, false}
 use native.Mathlib.Omega.{arith}
 use lib.ListN.{getD}
+use Rattle.head.specs.Head.{movedHead}
 use Rattle.rules.specs.declared.Setting.{Setting}
 use Rattle.rules.specs.Setting.{seedsInRange}
 use Rattle.rules.specs.State.{State, threadCell, state}
-use Rattle.rules.specs.Clock.{epoch, movedHead, turned}
+use Rattle.rules.specs.Clock.{epoch, turned}
 use Rattle.rules.specs.Hash.{places}
 use Rattle.rules.specs.Filter.{two, blacklisted}
 use Rattle.rules.specs.Policy.{limits01, narrow}

@@ -1,6 +1,5 @@
 -- `judge_block` tests the block, and then judges its setting or its records.
 use mathlib.Core.Path.{_≡_, sym, _∙_}
-use Prim.Native.Nat.{ℕ}
 use native.Mathlib.Omega.{arith}
 use Rattle.log_format.specs.Refusals.{logRefusalNumber}
 use Rattle.log_format.specs.Blocks.{blockRefusal}

@@ -8,7 +8,6 @@ use borrow.Author.Needs.{needs}
 use Rattle.filter_count.proofs.count.Statement.{statement}
 use Rattle.filter_count.proofs.count.Tie as tie
 
-
 -- the row has four places in each filter
 fours : (c : tie.Start) → (length (c .args .«at») ≡ 4) × (length (c .args .other) ≡ 4)
 fours c = (search needs, search needs)

@@ -1,14 +1,12 @@
 -- `count_in` meets its contract: four stores of what the cells held, raised, and the least of them. Args.t4 is the parameter at.
-use mathlib.Core.Path.{_≡_, ap₂, _∙_, subst}
+use mathlib.Core.Path.{_≡_, ap₂, _∙_}
 use Prim.Native.Nat.{min}
 use native.Mathlib.Omega.{arith}
 use lib.ListN.{length, length-set}
 use Rattle.filter_count.proofs.Counting.{row-raised, row-estimate}
-use Rattle.rules.specs.Filter.{estimate}
 use borrow.Author.Needs.{needs}
 use Rattle.filter_count.proofs.count_in.Statement.{statement}
 use Rattle.filter_count.proofs.count_in.Tie as tie
-
 
 -- the row has four places
 four : (c : tie.Start) → length (c .args .t4) ≡ 4

@@ -1,8 +1,8 @@
 -- `call_refusal` gives the refusals of what is lent, then 8 and 9.
 use mathlib.Core.Path.{_≡_, refl, sym, ap, _∙_}
 use mathlib.Core.Bool.{true}
+use Rattle.head.specs.declared.Head.{Head}
 use Rattle.rules.specs.declared.Setting.{Setting}
-use Rattle.rules.specs.declared.Head.{Head}
 use Rattle.rules.specs.Answers.{Refusal, refusalNumber, orElse}
 use Rattle.rules.specs.Setting.{settingOf}
 use Rattle.rules.specs.State.{headOf}

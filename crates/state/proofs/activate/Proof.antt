@@ -2,8 +2,8 @@
 use mathlib.Core.Path.{ap, _∙_}
 use native.Mathlib.Omega.{arith}
 use lib.ListN.{set}
-use Rattle.rules.specs.Decision.{activatedHead}
 use borrow.Author.Needs.{needs}
+use Rattle.head.specs.Head.{activatedHead}
 use Rattle.state.proofs.activate.Statement.{statement}
 use Rattle.state.proofs.activate.Tie as tie
 

@@ -1,7 +1,7 @@
 -- `store_clock` meets its contract: only the first word differs.
 use mathlib.Core.Path.{sym, ap}
+use Rattle.head.specs.Head.{movedHead}
 use Rattle.rules.specs.State.{headOf, headWords}
-use Rattle.rules.specs.Clock.{movedHead}
 use borrow.Author.Needs.{needs}
 use Rattle.words.proofs.store_clock.Statement.{statement}
 use Rattle.words.proofs.store_clock.Tie as tie

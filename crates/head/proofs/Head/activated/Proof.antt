@@ -1,8 +1,8 @@
 -- `Head::activated` stores the tick for the bank and the rank, and moves the next place on.
 use borrow.Author.Needs.{needs}
-use Rattle.rules.specs.Decision.{activatedHead}
-use Rattle.rules.proofs.Head.activated.Statement.{statement}
-use Rattle.rules.proofs.Head.activated.Tie as tie
+use Rattle.head.specs.Head.{activatedHead}
+use Rattle.head.proofs.Head.activated.Statement.{statement}
+use Rattle.head.proofs.Head.activated.Tie as tie
 
 add-stored : tie.Need-add-stored
 add-stored c = search needs

@@ -1,9 +1,9 @@
 -- `next_place` is the place after another in the ring.
 use borrow.Author.Needs.{needs}
 use borrow.Author.Tests.{eq-eqb, ne-eqb}
-use Rattle.rules.specs.History.{nextPlace}
-use Rattle.rules.proofs.next_place.Statement.{statement}
-use Rattle.rules.proofs.next_place.Tie as tie
+use Rattle.head.specs.Head.{nextPlace}
+use Rattle.head.proofs.next_place.Statement.{statement}
+use Rattle.head.proofs.next_place.Tie as tie
 
 add-if1 : tie.Need-add-if1
 add-if1 c = search needs

@@ -1,8 +1,8 @@
 -- `Head::moved` sets the clock and keeps the rest.
 use mathlib.Core.Path.{refl}
-use Rattle.rules.specs.Clock.{movedHead}
-use Rattle.rules.proofs.Head.moved.Statement.{statement}
-use Rattle.rules.proofs.Head.moved.Tie as tie
+use Rattle.head.specs.Head.{movedHead}
+use Rattle.head.proofs.Head.moved.Statement.{statement}
+use Rattle.head.proofs.Head.moved.Tie as tie
 
 returns : tie.Need-returns
 unfolding movedHead
