@@ -49,15 +49,15 @@ int main(int count, char **arguments)
     check(delays[0] == 6 && delays[1] == 20, "throttle_delays does not answer 6 and 20");
 
     setting[4] = delays[0];
-    check(throttle_setup(setting, seeds, 64, head, counters, 2048, ticks, 8, rows, 8, threads, 3) == 0,
+    check(throttle_setup(setting, seeds, THROTTLE_SEEDS, head, counters, 2048, ticks, 8, rows, 8, threads, 3) == 0,
           "throttle_setup refuses the setting");
-    check(throttle_request(setting, seeds, 64, head, counters, 2048, ticks, 8, rows, 8, threads, 3, 0, 0, 0, 5,
+    check(throttle_request(setting, seeds, THROTTLE_SEEDS, head, counters, 2048, ticks, 8, rows, 8, threads, 3, 0, 0, 0, 5,
                            answer) == THROTTLE_ANSWERED,
           "throttle_request refuses the first request");
     check(answer[0] == THROTTLE_OPENED && answer[1] == 0 && answer[2] == 1,
           "throttle_request does not open the first row with 1 left");
 
-    check(throttle_log_start(setting, seeds, 64, written) == 0, "throttle_log_start refuses the setting");
+    check(throttle_log_start(setting, seeds, THROTTLE_SEEDS, written) == 0, "throttle_log_start refuses the setting");
     check(count == 2 && first_block(arguments[1], wanted), "the sample log cannot be read");
     check(memcmp(written, wanted, sizeof written) == 0, "throttle_log_start does not write the sample's first block");
     return failed;

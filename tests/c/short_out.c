@@ -24,6 +24,6 @@ uint32_t ask(const uint16_t *seeds, uint16_t *counters, uint64_t *ticks, uint32_
 {
     static uint64_t setting[THROTTLE_SETTING_WORDS - SHORT_SETTING], head[THROTTLE_HEAD_CELLS - SHORT_HEAD];
     uint64_t out[THROTTLE_REQUEST_OUT - SHORT_REQUEST_OUT], read[THROTTLE_INDEX_OUT - SHORT_INDEX_OUT];
-    return throttle_request(setting, seeds, 64, head, counters, 2048, ticks, 8, rows, 8, threads, 3, 0, 0, 0, 5, out) +
-           throttle_index(setting, seeds, 64, head, counters, 2048, ticks, 8, rows, 8, threads, 3, 0, 0, 0, read);
+    return throttle_request(setting, seeds, THROTTLE_SEEDS, head, counters, 2048, ticks, 8, rows, 8, threads, 3, 0, 0, 0, 5, out) +
+           throttle_index(setting, seeds, THROTTLE_SEEDS, head, counters, 2048, ticks, 8, rows, 8, threads, 3, 0, 0, 0, read);
 }

@@ -209,21 +209,31 @@ static void order_of_seeds(void)
     give_back(&m);
 }
 
-/* The three words of both outs are 77. */
+/* All words of both outs become 77. */
+static void mark_outs(struct lent *m)
+{
+    for (size_t i = 0; i < THROTTLE_REQUEST_OUT; i++)
+        m->out[i] = 77;
+    for (size_t i = 0; i < THROTTLE_INDEX_OUT; i++)
+        m->index[i] = 77;
+}
+
+/* They are 77 still. */
 static int outs_kept(const struct lent *m)
 {
-    for (size_t i = 0; i < 3; i++)
-        if (m->out[i] != 77 || m->index[i] != 77)
-            return 0;
-    return 1;
+    int kept = 1;
+    for (size_t i = 0; i < THROTTLE_REQUEST_OUT; i++)
+        kept &= m->out[i] == 77;
+    for (size_t i = 0; i < THROTTLE_INDEX_OUT; i++)
+        kept &= m->index[i] == 77;
+    return kept;
 }
 
 /* Request, done and index are refused with this number and change nothing. */
 static int refused(struct lent *m, uint32_t number, uint64_t tick, uint64_t bank, uint64_t thread)
 {
     struct lent before = copy(m, &NINE);
-    for (size_t i = 0; i < 3; i++)
-        m->out[i] = m->index[i] = 77;
+    mark_outs(m);
     int all = request(m, tick, bank, thread, 9) == number &&
               done(m, tick, bank, thread) == number && reading(m, tick, bank, thread) == number;
     int kept = same(m, &before) && outs_kept(m);

@@ -54,7 +54,7 @@ static void same(const struct throttle_setting *s, const char *what, uint64_t go
 /* Compares the answer for s with what trying every delay gives. */
 static void try_setting(struct throttle_setting s)
 {
-    uint64_t words[9], out[2] = {111, 222};
+    uint64_t words[THROTTLE_SETTING_WORDS], out[THROTTLE_DELAYS_OUT] = {111, 222};
     uint32_t code = throttle_delays(throttle_words(&s, words), out);
     uint64_t least = 0, greatest = 0, accepted = 0;
     uint32_t first = 0, smallest = 5;
@@ -89,7 +89,7 @@ static void try_setting(struct throttle_setting s)
 /* One setting, its answer given. */
 static void expect(struct throttle_setting s, uint32_t code, uint64_t least, uint64_t greatest)
 {
-    uint64_t words[9], out[2] = {0, 0};
+    uint64_t words[THROTTLE_SETTING_WORDS], out[THROTTLE_DELAYS_OUT] = {0, 0};
     same(&s, "the code", throttle_delays(throttle_words(&s, words), out), code);
     same(&s, "the least delay", out[0], least);
     same(&s, "the greatest delay", out[1], greatest);
@@ -120,11 +120,12 @@ static void document_cases(void)
 /* Each field other than the delay at, below and above its bounds. */
 static void bounds(void)
 {
-    static const uint64_t high[9] = {1u << 30, 65535, 65535, 32768, 0, 1u << 24, 255, 16, 32};
-    for (int i = 0; i < 9; i++) {
+    static const uint64_t high[THROTTLE_SETTING_WORDS] = {1u << 30, 65535, 65535, 32768, 0, 1u << 24, 255, 16, 32};
+    for (int i = 0; i < THROTTLE_SETTING_WORDS; i++) {
         if (i == 4) continue;
         for (int k = 0; k < 3; k++) {
-            uint64_t words[9] = {2000, 1, 4, 2, 0, 16, 4, 16, 8}, out[2] = {111, 222};
+            uint64_t words[THROTTLE_SETTING_WORDS] = {2000, 1, 4, 2, 0, 16, 4, 16, 8};
+            uint64_t out[THROTTLE_DELAYS_OUT] = {111, 222};
             words[i] = k == 0 ? 0 : k == 1 ? high[i] + 2 : UINT64_MAX;
             struct throttle_setting s = small(words[0], words[1], words[2], words[3], words[5]);
             same(&s, "the code of a field out of range", throttle_delays(words, out), 1);

@@ -45,7 +45,7 @@ full =
     }
 
 pub record Left : Type 0 where
-  -- S, row 5: "1 left after tick 0, 0 after tick 1, 0 after tick 7", and none told while it waits
+  -- S, row 5: 1 left after tick 0, 0 after ticks 1 and 7; none told while it waits
   pub row5 : words house (ask 0 ∷ ask 1 ∷ ask 2 ∷ ask 7 ∷ []) ≡ openedWith 1 ∷ openedWith 0 ∷ held 7 ∷ openedWith 0 ∷ []
   -- row 0, whose four places coincide
   pub row0 : words house (askRow 0 0 ∷ askRow 1 0 ∷ []) ≡ openedWith 1 ∷ openedWith 0 ∷ []
@@ -53,7 +53,8 @@ pub record Left : Type 0 where
   pub accepted : setupRefusal limits01 S zeros before ≡ none
   pub shared : words zeros (askRow 0 5 ∷ askRow 1 9 ∷ []) ≡ openedWith 1 ∷ openedWith 0 ∷ []
   pub apart : words house (askRow 0 5 ∷ askRow 1 9 ∷ []) ≡ openedWith 1 ∷ openedWith 1 ∷ []
-  -- Epoch 1 tests filter 1, which has counted ticks 18 and 19; filter 0 was cleared at its begin. Epoch 2 tests filter 0.
+  -- Epoch 1 tests filter 1, which has counted ticks 18 and 19; filter 0 was cleared on entering it. At tick 40 two epochs have passed, and both are
+  -- cleared.
   pub nextEpoch : words house (ask 18 ∷ ask 19 ∷ ask 37 ∷ []) ≡ openedWith 1 ∷ openedWith 0 ∷ openedWith 0 ∷ []
   pub afterTwo : words house (ask 18 ∷ ask 19 ∷ ask 40 ∷ []) ≡ openedWith 1 ∷ openedWith 0 ∷ openedWith 1 ∷ []
   -- "never below 0": lent counters above N

@@ -15,7 +15,7 @@ kindOf Open = 0
 kindOf (Hold c u) = 1
 kindOf OverQuota = 2
 
--- the number and the wait tick of its answer, in which the openings left play no part
+-- the number of its answer, in which the openings left play no part
 abbrev pub numberOf : Decision → ℕ
 numberOf d = answerNumber (answerOf d 0)
 

@@ -36,25 +36,8 @@ fn main() -> ExitCode {
             return ExitCode::FAILURE;
         }
     }
-    match rings::compare(Fault::None) {
-        Ok(told) => println!(
-            "  listed histories: {} sound, {} not",
-            told.sound, told.unsound
-        ),
-        Err(difference) => {
-            println!("compare: DIFFERENCE in a listed history: {difference:#?}");
-            return ExitCode::FAILURE;
-        }
-    }
-    match levels::compare(Fault::None) {
-        Ok(told) => println!(
-            "  listed counters: {} opened with 0 left, {} with more",
-            told.none, told.some
-        ),
-        Err(difference) => {
-            println!("compare: DIFFERENCE with listed counters: {difference:#?}");
-            return ExitCode::FAILURE;
-        }
+    if !listed() {
+        return ExitCode::FAILURE;
     }
     println!("{tally}");
     let missed = tally.missed();
@@ -64,4 +47,29 @@ fn main() -> ExitCode {
     }
     println!("compare: no difference");
     ExitCode::SUCCESS
+}
+
+/// Compares on listed histories and on listed counters.
+fn listed() -> bool {
+    match rings::compare(Fault::None) {
+        Ok(told) => println!(
+            "  listed histories: {} sound, {} not",
+            told.sound, told.unsound
+        ),
+        Err(difference) => {
+            println!("compare: DIFFERENCE in a listed history: {difference:#?}");
+            return false;
+        }
+    }
+    match levels::compare(Fault::None) {
+        Ok(told) => println!(
+            "  listed counters: {} opened with 0 left, {} with more",
+            told.none, told.some
+        ),
+        Err(difference) => {
+            println!("compare: DIFFERENCE with listed counters: {difference:#?}");
+            return false;
+        }
+    }
+    true
 }
