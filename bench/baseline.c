@@ -261,13 +261,14 @@ static uint64_t activate(const struct rules *r, uint64_t head[THROTTLE_HEAD_CELL
     for (size_t k = 3; k > 0; k--)
         head[RANK_HEAD + k] = head[RANK_HEAD + k - 1];
     head[RANK_HEAD] = stored;
-    uint32_t counted = count_row(bank_counters + active * FILTER, places, r->n);
-    count_row(bank_counters + (1 - active) * FILTER, places, r->n);
+    uint32_t first = count_row(bank_counters, places, r->n);
+    uint32_t second = count_row(bank_counters + FILTER, places, r->n);
     cell[IN_FLIGHT]++;
     if (black) {
         cell[0] += cell[0] < r->scale;
         cell[1] += cell[1] < r->scale;
     }
+    uint32_t counted = active == 0 ? first : second;
     return counted < r->n ? r->n - counted : 0;
 }
 

@@ -13,7 +13,7 @@ static const uint16_t row_bits[16] = {
 };
 
 /* One H3 hash function: the seeds of the row's set bits. */
-static inline uint16_t hash_function(const uint16_t seeds[16], const uint16_t set[16])
+static uint16_t hash_function(const uint16_t seeds[16], const uint16_t set[16])
 {
     uint16_t x = 0;
     for (size_t i = 0; i < 16; i++)
@@ -22,7 +22,7 @@ static inline uint16_t hash_function(const uint16_t seeds[16], const uint16_t se
 }
 
 /* The row's four places in a filter. A loop over the functions is ten times slower with gcc 12. */
-static inline void hash(const uint16_t seeds[64], uint16_t row, uint16_t places[4])
+static void hash(const uint16_t seeds[64], uint16_t row, uint16_t places[4])
 {
     uint16_t set[16];
     for (size_t i = 0; i < 16; i++)
@@ -34,7 +34,7 @@ static inline void hash(const uint16_t seeds[64], uint16_t row, uint16_t places[
 }
 
 /* The least of the row's four counters in a filter. */
-static inline uint32_t estimate(const uint16_t *filter, const uint16_t places[4])
+static uint32_t estimate(const uint16_t *filter, const uint16_t places[4])
 {
     uint16_t least = filter[places[0]];
     for (size_t k = 1; k < 4; k++)
