@@ -62,7 +62,7 @@ struct throttle_setting {
  * that was compiled with the header of version 1 must be compiled again, and
  * one that lends an array of two words must be changed: the third word would be
  * written past its end. gcc and clang warn of a short array in C where they see
- * its length (THROTTLE_LEAST); C++ compilers do not.
+ * its length (THROTTLE_LEAST), and in C++ they do not.
  */
 enum {
     THROTTLE_SETTING_WORDS = 9,
