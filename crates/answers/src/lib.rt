@@ -3,6 +3,7 @@ use rules::Answer;
 use rules::Cause;
 use rules::Decision;
 ghost use mathlib.Core.Path.{_≡_};
+ghost use mathlib.Core.List.{[], _∷_};
 ghost use Prim.Native.Nat.{_-_};
 ghost use Rattle.rules.specs.Answers.{causeNumber, answerNumber, answerWait, answerLeft};
 ghost use Rattle.rules.specs.Decision.{opens, answerOf};
@@ -77,4 +78,14 @@ pub fn answer_left(a: Answer) -> u64
         Answer::Wait { cause: _, until: _ } => 0,
         Answer::Quota => 0,
     }
+}
+
+// The words that a request writes for the caller: the number of its answer, the wait tick and the openings left.
+pub fn out_words(a: Answer) -> [u64; 3]
+    ensures { λ r. ⌜ r ≡ answerNumber a ∷ answerWait a ∷ answerLeft a ∷ [] ⌝ }
+{
+    let number = answer_number(a);
+    let wait = answer_wait(a);
+    let openings = answer_left(a);
+    [number, wait, openings]
 }

@@ -33,20 +33,11 @@ fn clear_ticks(ticks: &mut [u64], h: usize)
     }
 }
 
-fn clear_rows(rows: &mut [u32], h: usize)
-    requires { ⌜ h ≤ length (now rows) ⌝ }
-    ensures { λ _. ⌜ now (rows .exit) ≡ clearCells (λ i. ltb i h) (now (rows .entry)) ⌝ }
-{
-    for i in 0..h {
-        rows[i] = 0;
-    }
-}
-
 // Empties the h places.
 pub fn clear(ticks: &mut [u64], rows: &mut [u32], h: usize)
     requires { ⌜ (h ≤ length (now ticks)) × (h ≤ length (now rows)) ⌝ }
     ensures { λ _. ⌜ (now (ticks .exit) ≡ clearCells (λ i. ltb i h) (now (ticks .entry))) × (now (rows .exit) ≡ clearCells (λ i. ltb i h) (now (rows .entry))) ⌝ }
 {
     clear_ticks(ticks, h);
-    clear_rows(rows, h);
+    clearing::clear32(rows, h);
 }

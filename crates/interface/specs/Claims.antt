@@ -78,7 +78,8 @@ abbrev pub Demand3ForC : Type 0
 Demand3ForC =
     (setting seeds : List ℕ) (m : Lent) → leftBySetup setting seeds m .code ≡ 0
     → (cs : List Asked) (bank row start : ℕ)
-    → timesActivated bank row start (settingOf setting .w) (openings cs (leftByAll setting seeds (lentAfter (leftBySetup setting seeds m)) cs)) ≤ settingOf setting .l
+    → timesActivated bank row start (settingOf setting .w)
+    (openings cs (leftByAll setting seeds (lentAfter (leftBySetup setting seeds m)) cs)) ≤ settingOf setting .l
 
 pub record Theorems : Type 0 where
   pub spans : SpansForC

@@ -29,7 +29,7 @@ pub fn fresh(
 {
     filter_turn::clear(counters, (s.banks * 2048) as usize);
     history::clear(ticks, rows, setting::history_length(s));
-    thread_counters::clear(threads, (s.banks * s.threads * 3) as usize);
+    clearing::clear32(threads, (s.banks * s.threads * 3) as usize);
     Head {
         last: 0,
         next: 0,

@@ -2,7 +2,6 @@
 // The definitions that the contracts cite are those of the crate `rules`.
 ghost use mathlib.Core.Path.{_≡_};
 ghost use Prim.Native.Nat.{_+_, _-_, _*_, _%_, _^_, _≤_, _<_};
-ghost use lib.Dec.{ltb};
 ghost use lib.ListN.{length, getD, set};
 ghost use Rattle.rules.specs.Cells.{clearCells};
 ghost use Rattle.rules.specs.Setting.{indexScale};
@@ -84,14 +83,4 @@ pub fn turn(threads: &mut [u32], used: usize, from: u64, to: u64)
     }
     let kind = from % 2;
     clear_kind(threads, kind as usize, groups);
-}
-
-// Set-up: the used cells become 0.
-pub fn clear(threads: &mut [u32], used: usize)
-    requires { ⌜ used ≤ length (now threads) ⌝ }
-    ensures { λ _. ⌜ now (threads .exit) ≡ clearCells (λ i. ltb i used) (now (threads .entry)) ⌝ }
-{
-    for i in 0..used {
-        threads[i] = 0;
-    }
 }

@@ -1,6 +1,6 @@
 // The throttle: set-up, request, done and index for C, proved against the rules. Every call returns 0 when it answered, and else
 // the number of its refusal; a refused call changes nothing that was lent. Of buffers that overlap nothing is promised.
-use answers::answer_left;
+use answers::out_words;
 use refusal::call_refusal;
 use refusal::done_refusal;
 use refusal::lent_refusal;
@@ -111,10 +111,7 @@ pub extern "C" fn throttle_request(
     let answer = d.answer;
     let after = d.head;
     store_answered(answer, after, head);
-    let number = answer_number(answer);
-    let wait = answer_wait(answer);
-    let openings = answer_left(answer);
-    *out = [number, wait, openings];
+    *out = out_words(answer);
     0
 }
 

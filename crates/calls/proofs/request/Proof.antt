@@ -39,8 +39,15 @@ hashed c = (c .before .before .before .before .before)
 abbrev looked : tie.After-decide → tie.After-look
 looked c = (c .before)
 
-abbrev decides : tie.After-opens → tie.After-decide
-decides c = (c .before)
+abbrev decides : tie.Else1 → tie.After-decide
+decides c = (c .before .before)
+
+abbrev chosen : tie.After-activate → tie.Else1
+chosen c = (c .before .before .before .before .before .before .before)
+
+-- all the way from an activation, and to the move of the clock
+abbrev turned-first : tie.After-activate → tie.After-turn
+turned-first c = turns (hashed (looked (decides (chosen c))))
 
 -- ---- what is known on it
 
@@ -110,29 +117,28 @@ left c =
     let x = c .activate .last in
     state (c .activate .result .head) (x .1 .1 .0) (x .1 .1 .1 .0) (x .1 .1 .1 .1 .0) (x .1 .1 .1 .1 .1 .0)
 
-left-is : (c : tie.After-activate) → let start = (c .before .before .before .before .before .before .before .before .before .before .before .before .before .before .before .before .before .before .before .before .before .before .before .before .before .before .before .before .before) in let a = start .args in left c ≡ activated (a .s) (at start) (turned-to start) (a .bank) (a .thread) (a .row)
+left-is : (c : tie.After-activate) → let start = begun (turned-first c) in let a = start .args in left c ≡ activated (a .s) (at start) (turned-to start) (a .bank) (a .thread) (a .row)
 left-is c =
-    let start = (c .before .before .before .before .before .before .before .before .before .before .before .before .before .before .before .before .before .before .before .before .before .before .before .before .before .before .before .before .before) in
-    let a = start .args in
-    let at-places = (c .before .before .before .before .before .before .before .before .before .before .before .before .before .before .before) in
+    let at-places = hashed (looked (decides (chosen c))) in
+    let a = begun (turns at-places) .args in
     c .activate .ensures .0 ∙ ap₂ (λ y x. activated (a .s) y x (a .bank) (a .thread) (a .row)) (at-is at-places) (moved-is (turns at-places))
 
 turn-requires : tie.Need-turn-requires
 turn-requires c κs =
-    let k = ok ((c .before .before .before .before .before .before .before)) in
+    let k = ok (c .before .before .before .before .before .before .before) in
     (bounds narrow-widest (k .setting), k .long .counters, k .long .threads, k .later)
 
 places-requires : tie.Need-places-requires
 places-requires c κs =
-    let start = (c .before .before .before .before .before .before .before .before .before .before .before .before .before) in
+    let start = begun (c .before .before .before .before .before) in
     is-true (seedsInRange (start .args .seeds .now)) (ok start .setting .seeds-ok)
 
 look-requires : tie.Need-look-requires
 unfolding movedHead
 look-requires c κs =
-    let start = (c .before .before .before .before .before .before .before .before .before .before .before .before .before .before .before .before .before .before) in
-    let at-turn = (c .before .before .before .before .before .before .before .before .before .before) in
     let at-places = (c .before .before .before .before) in
+    let at-turn = turns at-places in
+    let start = begun at-turn in
     let k = ok start in (
       ready-here at-turn,
       omega (arith, k .long .counters, at-turn .turn .kept .1 .1 .0),
@@ -144,10 +150,10 @@ look-requires c κs =
 
 decide-requires : tie.Need-decide-requires
 decide-requires c κs =
-    let start = (c .before .before .before .before .before .before .before .before .before .before .before .before .before .before .before .before .before .before .before) in
+    let start = begun (turns (hashed c)) in
     let a = start .args in
     let r = bounds narrow-widest (ok start .setting) .ranges in
-    let v = view-small limits01 narrow-widest (a .s) (a .seeds .now) (entry start) (a .tick) (a .bank) (a .thread) (a .row) (ok start) (c .look .result) (view-is ((c))) in
+    let v = view-small limits01 narrow-widest (a .s) (a .seeds .now) (entry start) (a .tick) (a .bank) (a .thread) (a .row) (ok start) (c .look .result) (view-is c) in
     (r .trc-high, r .tfaw-high, v .0, v .1)
 
 opens-requires : tie.Need-opens-requires
@@ -170,27 +176,29 @@ same-length-4 c = search needs
 
 returns : tie.Need-returns
 returns c =
-    let start = (c .before .before .before .before .before .before .before .before .before .before .before .before .before .before .before .before .before .before .before .before .before .before .before) in
-    let at-turn = (c .before .before .before .before .before .before .before .before .before .before .before .before .before .before .before) in
-    let at-decide = (c .before .before .before) in
+    let at-opens = (c .before .before) in
+    let at-decide = (at-opens .before) in
+    let at-turn = turns (hashed (looked at-decide)) in
+    let start = begun at-turn in
     let a = start .args in
     let st = entry start in (
       request-waits limits01 narrow-widest (a .s) (a .seeds .now) st (a .tick) (a .bank) (a .thread) (a .row) (ok start) (at-decide .decide .result) (c .answer .result) (moved at-turn)
-          (moved-is at-turn) (decided at-decide) (sym (c .before .before .opens .ensures) ∙ not-not (c .before .before .opens .result) true (c .before .if1 .taken)) (c .answer .ensures),
+          (moved-is at-turn) (decided at-decide) (sym (at-opens .opens .ensures) ∙ not-not (at-opens .opens .result) true (c .before .if1 .taken)) (c .answer .ensures),
       subst (λ x. Sound (a .s) x) (sym (moved-is at-turn)) (moved-sound limits01 narrow-widest (a .s) (a .seeds .now) st (a .tick) (a .bank) (a .thread) (a .row) (ok start)),
     )
 
 activate-requires : tie.Need-activate-requires
 activate-requires c κs =
-    let start = (c .before .before .before .before .before .before .before .before .before .before .before .before .before .before .before .before .before .before .before .before .before .before .before .before .before .before .before .before) in
-    let at-turn = (c .before .before .before .before .before .before .before .before .before .before .before .before .before .before .before .before .before .before .before .before) in
-    let at-places = (c .before .before .before .before .before .before .before .before .before .before .before .before .before .before) in
-    let at-look = (c .before .before .before .before .before .before .before .before .before) in
-    let at-decide = (c .before .before .before .before .before .before .before .before) in
+    let branch = (c .before .before .before .before .before .before) in
+    let at-decide = decides branch in
+    let at-look = looked at-decide in
+    let at-places = hashed at-look in
+    let at-turn = turns at-places in
+    let start = begun at-turn in
     let a = start .args in
     let st = entry start in
     let k = ok start in
-    let few = few-flying limits01 narrow-widest (a .s) (a .seeds .now) st (a .tick) (a .bank) (a .thread) (a .row) k (at-decide .decide .result) (decided at-decide) (opened ((c .before .before .before .before .before .before))) in
+    let few = few-flying limits01 narrow-widest (a .s) (a .seeds .now) st (a .tick) (a .bank) (a .thread) (a .row) k (at-decide .decide .result) (decided at-decide) (opened branch) in
     let black = black-by-view limits01 narrow-widest (a .s) (a .seeds .now) st (a .tick) (a .bank) (a .thread) (a .row) k (at-look .look .result) (view-is at-look) in (
       ready-here at-turn,
       omega (arith, k .long .counters, at-turn .turn .kept .1 .1 .0),
@@ -209,7 +217,7 @@ answer-requires-2 : tie.Need-answer-requires-2
 answer-requires-2 c κs = search needs
 
 same-length-5 : tie.Need-same-length-5
-same-length-5 c = c .before .before .before .before .before .before .before .before .before .before .before .activate .kept .1 .1 .0 ∙ c .before .before .before .before .before .before .before .before .before .before .before .before .before .before .before .before .before .before .before .before .before .before .before .before .before .before .before .before .before .before .before .before .turn .kept .1 .1 .0
+same-length-5 c = let opens-it = (c .before .before .before .before .before .before .before .before .before .before .before) in opens-it .activate .kept .1 .1 .0 ∙ turned-first opens-it .turn .kept .1 .1 .0
 
 same-length-6 : tie.Need-same-length-6
 same-length-6 c = search needs
@@ -218,21 +226,22 @@ same-length-7 : tie.Need-same-length-7
 same-length-7 c = search needs
 
 same-length-8 : tie.Need-same-length-8
-same-length-8 c = c .before .before .before .before .before .before .before .before .before .before .before .activate .kept .1 .1 .1 .1 .1 .0 ∙ c .before .before .before .before .before .before .before .before .before .before .before .before .before .before .before .before .before .before .before .before .before .before .before .before .before .before .before .before .before .before .before .before .turn .kept .1 .1 .1 .0
+same-length-8 c = let opens-it = (c .before .before .before .before .before .before .before .before .before .before .before) in opens-it .activate .kept .1 .1 .1 .1 .1 .0 ∙ turned-first opens-it .turn .kept .1 .1 .1 .0
 
 returns-2 : tie.Need-returns-2
 returns-2 c =
-    let start = (c .before .before .before .before .before .before .before .before .before .before .before .before .before .before .before .before .before .before .before .before .before .before .before .before .before .before .before .before .before .before .before .before .before .before .before .before .before .before .before .before) in
-    let at-decide = (c .before .before .before .before .before .before .before .before .before .before .before .before .before .before .before .before .before .before .before .before) in
     let at-activate = (c .before .before .before .before .before .before .before .before .before .before .before) in
-    let at-places = (c .before .before .before .before .before .before .before .before .before .before .before .before .before .before .before .before .before .before .before .before .before .before .before .before .before .before) in
+    let branch = chosen at-activate in
+    let at-decide = decides branch in
+    let at-places = hashed (looked at-decide) in
+    let start = begun (turns at-places) in
     let a = start .args in
     let st = entry start in
     let z = left at-activate in
     let est = at-activate .activate .result .estimate in
     let reads : est ≡ activeEstimate (a .s) (at start) z (a .bank) = at-activate .activate .ensures .1 ∙ ap (λ y. activeEstimate (a .s) y z (a .bank)) (at-is at-places) in (
       request-opens limits01 narrow-widest (a .s) (a .seeds .now) st (a .tick) (a .bank) (a .thread) (a .row) (ok start) (at-decide .decide .result) (c .answer2 .result) z est
-          (left-is at-activate) (decided at-decide) (opened ((c .before .before .before .before .before .before .before .before .before .before .before .before .before .before .before .before .before .before))) reads (c .answer2 .ensures ∙ ap (answerOf (at-decide .decide .result)) (c .before .openings-left .ensures)),
+          (left-is at-activate) (decided at-decide) (opened branch) reads (c .answer2 .ensures ∙ ap (answerOf (at-decide .decide .result)) (c .before .openings-left .ensures)),
       subst (λ x. Sound (a .s) x) (sym (left-is at-activate)) (activated-sound limits01 narrow-widest (a .s) (a .seeds .now) st (a .tick) (a .bank) (a .thread) (a .row) (ok start)),
     )
 

@@ -20,20 +20,20 @@ clear-requires-2 c κs =
     let l = c .before .before .before .before .before .before .before .before .before .before .before .before .pre .1 in
     rw (c .history-length .ensures) (l .ticks, l .rows)
 
-mul-clear-2 : tie.Need-mul-clear-2
-mul-clear-2 c =
+mul-clear32 : tie.Need-mul-clear32
+mul-clear32 c =
     let start = c .before .before .before .before .before .before .before .before .before .before .before .before .before .before .before .before .before .before .before in
     let r = start .pre .0 .ranges in
     omega (arith, cells-small (start .args .s .banks) (start .args .s .threads) (r .banks-high) (r .threads-high))
 
-mul-clear-3 : tie.Need-mul-clear-3
-mul-clear-3 c =
+mul-clear32-2 : tie.Need-mul-clear32-2
+mul-clear32-2 c =
     let start = c .before .before .before .before .before .before .before .before .before .before .before .before .before .before .before .before .before .before .before in
     let r = start .pre .0 .ranges in
     omega (arith, cells-small (start .args .s .banks) (start .args .s .threads) (r .banks-high) (r .threads-high))
 
-clear-requires-3 : tie.Need-clear-requires-3
-clear-requires-3 c κs = search needs
+clear32-requires : tie.Need-clear32-requires
+clear32-requires c κs = search needs
 
 same-length : tie.Need-same-length
 same-length c = search needs
@@ -51,7 +51,7 @@ returns : tie.Need-returns
 unfolding fresh freshHead
 returns c =
     let at-clear2 = c .before .before .before .before .before .before .before .before .before in
-    rw (c .before .before .before .before .before .before .before .before .before .before .before .before .before .before .before .clear .ensures, at-clear2 .clear2 .ensures .0, at-clear2 .clear2 .ensures .1, c .before .before .clear3 .ensures, c .before .before .before .before .before .before .before .before .before .before .history-length .ensures)
+    rw (c .before .before .before .before .before .before .before .before .before .before .before .before .before .before .before .clear .ensures, at-clear2 .clear2 .ensures .0, at-clear2 .clear2 .ensures .1, c .before .before .clear32 .ensures, c .before .before .before .before .before .before .before .before .before .before .history-length .ensures)
 
 pub fresh-spec : {M : Type 1} → statement M
 fresh-spec =
@@ -61,9 +61,9 @@ fresh-spec =
     clear-requires
     history-length-requires
     clear-requires-2
-    mul-clear-2
-    mul-clear-3
-    clear-requires-3
+    mul-clear32
+    mul-clear32-2
+    clear32-requires
     same-length
     same-length-2
     same-length-3

@@ -112,14 +112,8 @@ store-answered-requires c κs =
     held (s start) (a .seeds .now) (a .head .now) (a .counters .now) (a .ticks .now) (a .rows .now) (a .threads .now)
     (a .tick) (a .bank) (a .thread) (a .row) (at .request .result .answer) (after at) (left-by at)
 
-answer-number-requires : tie.Need-answer-number-requires
-answer-number-requires c κs = search needs
-
-answer-wait-requires : tie.Need-answer-wait-requires
-answer-wait-requires c κs = search needs
-
-answer-left-requires : tie.Need-answer-left-requires
-answer-left-requires c κs = search needs
+out-words-requires : tie.Need-out-words-requires
+out-words-requires c κs = search needs
 
 same-length-2 : tie.Need-same-length-2
 same-length-2 c = search needs
@@ -135,11 +129,11 @@ same-length-5 c = search needs
 
 returns-2 : tie.Need-returns-2
 returns-2 c =
-    let told = (c .before .before .before .before) in
+    let told = (c .before) in
     let at = (told .before .before .before .before .before .before .before .before .before .before .before) in
     let start = begun (passed at) in
     let a = start .args in
-    rw (told .store-answered .ensures, c .before .before .before .answer-number .ensures, c .before .before .answer-wait .ensures, c .before .answer-left .ensures)
+    rw (told .store-answered .ensures, c .out-words .ensures)
     (left-request (s start) (a .seeds .now) (a .head .now) (a .counters .now) (a .ticks .now) (a .rows .now) (a .threads .now)
     (a .tick) (a .bank) (a .thread) (a .row) (a .out .now) (ap refusalNumber (free (passed at))) (at .request .result .answer) (after at) (left-by at))
 
@@ -158,9 +152,7 @@ throttle-request-spec =
     element-copy-out-request
     request-requires
     store-answered-requires
-    answer-number-requires
-    answer-wait-requires
-    answer-left-requires
+    out-words-requires
     same-length-2
     same-length-3
     same-length-4

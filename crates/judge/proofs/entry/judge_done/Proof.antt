@@ -5,11 +5,15 @@ use borrow.Author.Needs.{needs}
 use Rattle.judge.proofs.entry.judge_done.Statement.{statement}
 use Rattle.judge.proofs.entry.judge_done.Tie as tie
 
+-- the start, from where the model was called
+abbrev asked : tie.After-done → tie.Start
+asked c = (c .before .before .before .before .before .before .before .before)
+
 abbrev entry : tie.After-done → State
-entry c = let a = c .before .before .before .before .before .before .before .before .args in state (a .h) (a .counters .now) (a .ticks .now) (a .rows .now) (a .threads .now)
+entry c = let a = asked c .args in state (a .h) (a .counters .now) (a .ticks .now) (a .rows .now) (a .threads .now)
 
 abbrev exit : tie.After-done → State
-exit c = let a = c .before .before .before .before .before .before .before .before .args in let q = c .done in state (q .result .head) (q .last .1 .1 .1 .0) (a .ticks .now) (a .rows .now) (q .last .1 .1 .1 .1 .1 .1 .0)
+exit c = let a = asked c .args in let q = c .done in state (q .result .head) (q .last .1 .1 .1 .0) (a .ticks .now) (a .rows .now) (q .last .1 .1 .1 .1 .1 .1 .0)
 
 done-requires : tie.Need-done-requires
 done-requires c κs = search needs
@@ -25,10 +29,11 @@ same-length-2 c = search needs
 
 returns : tie.Need-returns
 returns c =
-    let a = c .before .before .before .before .before .before .before .before .before .before .before .before .before .before .before .args in
-    let q = c .before .before .before .before .before .before .before .done in
+    let at = (c .before .before .before .before .before .before .before) in
+    let a = asked at .args in
+    let q = at .done in
     rw (c .refused .ensures)
-    (done-refused (a .s) (a .seeds .now) (a .p) (entry (c .before .before .before .before .before .before .before)) (a .e) ((c .before .before .before .before .before .before .before .before .before .before .before .before .before .before .before) .pre .3) (q .result .code) (exit (c .before .before .before .before .before .before .before)) (q .ensures) (q .result .head) (c .before .if1 .taken))
+    (done-refused (a .s) (a .seeds .now) (a .p) (entry at) (a .e) (asked at .pre .3) (q .result .code) (exit at) (q .ensures) (q .result .head) (c .before .if1 .taken))
 
 settle-requires : tie.Need-settle-requires
 settle-requires c κs = search needs
@@ -41,10 +46,11 @@ same-length-4 c = search needs
 
 returns-2 : tie.Need-returns-2
 returns-2 c =
-    let a = c .before .before .before .before .before .before .before .before .before .before .before .before .before .before .before .args in
-    let q = c .before .before .before .before .before .before .before .done in
+    let at = (c .before .before .before .before .before .before .before) in
+    let a = asked at .args in
+    let q = at .done in
     rw (c .settle .ensures)
-    (done-settled (a .s) (a .seeds .now) (a .p) (entry (c .before .before .before .before .before .before .before)) (a .e) ((c .before .before .before .before .before .before .before .before .before .before .before .before .before .before .before) .pre .3) (q .result .code) (exit (c .before .before .before .before .before .before .before)) (q .ensures) (q .result .head) (c .before .if1 .left))
+    (done-settled (a .s) (a .seeds .now) (a .p) (entry at) (a .e) (asked at .pre .3) (q .result .code) (exit at) (q .ensures) (q .result .head) (c .before .if1 .left))
 
 pub judge-done-spec : {M : Type 1} → statement M
 judge-done-spec =

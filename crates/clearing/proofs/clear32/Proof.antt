@@ -1,25 +1,25 @@
--- `thread_counters::clear`. The loop's invariant: the cells passed are 0 and the others are as they were.
+-- `clear32` meets its contract. The invariant: the cells passed are cleared, the others are as they were.
 use Prim.Native.Nat.{_-_}
 use native.Mathlib.Omega.{arith}
 use Rattle.rules.proofs.Clearing.{Cleared, cleared-all, first, first-none, first-more}
 use borrow.Author.Needs.{needs}
-use Rattle.thread_counters.proofs.clear.Statement.{statement}
-use Rattle.thread_counters.proofs.clear.Tie as tie
+use Rattle.clearing.proofs.clear32.Statement.{statement}
+use Rattle.clearing.proofs.clear32.Tie as tie
 
 abbrev Inv-loop : tie.InvT-loop
-Inv-loop threads₀ used i₀ threads i = Cleared first used threads₀ i threads
+Inv-loop cells₀ n i₀ cells i = Cleared first n cells₀ i cells
 
 abbrev μ-loop : tie.MeasureT-loop
-μ-loop threads₀ used i₀ threads i = used - i
+μ-loop cells₀ n i₀ cells i = n - i
 
 loop-holds : tie.Need-loop-holds Inv-loop μ-loop
-loop-holds c = first-none (c .args .used) (c .args .threads .now)
+loop-holds c = first-none (c .args .n) (c .args .cells .now)
 
-mul-threads : tie.Need-mul-threads Inv-loop μ-loop
-mul-threads c = search needs
+mul-cells : tie.Need-mul-cells Inv-loop μ-loop
+mul-cells c = search needs
 
-slice-write-threads : tie.Need-slice-write-threads Inv-loop μ-loop
-slice-write-threads c = search needs
+slice-write-cells : tie.Need-slice-write-cells Inv-loop μ-loop
+slice-write-cells c = search needs
 
 add-i : tie.Need-add-i Inv-loop μ-loop
 add-i c = search needs
@@ -36,15 +36,15 @@ same-length c = c .before .loop .inv .long
 returns : tie.Need-returns Inv-loop μ-loop
 returns c = cleared-all (c .before .loop .inv) (omega arith)
 
-pub clear-spec : {M : Type 1} → statement M
-clear-spec =
+pub clear32-spec : {M : Type 1} → statement M
+clear32-spec =
     tie.close
     (tie.spec
     Inv-loop
     μ-loop
     loop-holds
-    mul-threads
-    slice-write-threads
+    mul-cells
+    slice-write-cells
     add-i
     loop-less
     loop-again
