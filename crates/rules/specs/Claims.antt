@@ -200,7 +200,7 @@ FirstOpened p =
 
 -- ---- openings left (document 02, e)
 
--- After an activation they are N less the estimate before it plus 1, for any contents of the counters, those above N included, and any
+-- After an activation they are N less (the estimate before it + 1), for any contents of the counters, those above N included, and any
 -- seeds in range of each filter, so that places may coincide.
 abbrev pub LeftAfter : Type 0
 LeftAfter =
