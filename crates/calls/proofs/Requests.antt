@@ -67,6 +67,7 @@ bounds w ok =
         banks-high = r .banks-high;
         threads-low = r .threads-low;
         threads-high = r .threads-high;
+        mark = r .mark;
       };
       epoch = epoch-long ok;
       delay = ok .delay;

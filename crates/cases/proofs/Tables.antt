@@ -17,6 +17,7 @@ use Rattle.cases.proofs.Numbers.{numbers}
 use Rattle.cases.proofs.Rounding.{rounded}
 use Rattle.cases.proofs.Totals.{totals}
 use Rattle.cases.proofs.Left.{left}
+use Rattle.cases.proofs.Profiles.{profiles}
 
 pub tables : Tables
 unfolding house before settingOf historyLength rowBound fieldsInRange seedsInRange settingRefusal headOf tooShort freshHead fresh turnedCounters turnedThreads movedHead turned hash places estimate raised named counted nextPlace back neverRises memoryOk rowFree quotaDown halfEven quotaEven inFlightTotal passesAt waitTick decide activatedHead activatedThreads activated setupRefusal callRefusal doneRefusal unlessRefused requested reported indexShown step
@@ -30,4 +31,5 @@ tables =
       rounded = rounded;
       totals = totals;
       left = left;
+      profiles = profiles;
     }

@@ -2,4 +2,5 @@ pub mod Cases
 pub mod Rounding
 pub mod Totals
 pub mod Left
+pub mod Profiles
 pub mod Tables

@@ -6,6 +6,7 @@ use Rattle.cases.specs.Cases.{Numbers, Cases, run, opened, waitRow, toTi
 use Rattle.cases.specs.Rounding.{Rounded}
 use Rattle.cases.specs.Totals.{Totals}
 use Rattle.cases.specs.Left.{Left}
+use Rattle.cases.specs.Profiles.{Profiles}
 
 pub record Tables : Type 0 where
   pub numbers : Numbers
@@ -20,3 +21,5 @@ pub record Tables : Type 0 where
   pub totals : Totals
   -- the cases of document 02, e
   pub left : Left
+  -- the cases of document 02, g
+  pub profiles : Profiles

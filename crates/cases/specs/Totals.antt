@@ -17,7 +17,7 @@ use Rattle.cases.specs.Rounding.{judgedOf}
 
 -- S with 2 banks, 2 threads and Q 1
 unfoldable pub S2 : Setting
-S2 = settingOf (40 ∷ 1 ∷ 4 ∷ 2 ∷ 6 ∷ 10 ∷ 1 ∷ 2 ∷ 2 ∷ [])
+S2 = settingOf (40 ∷ 1 ∷ 4 ∷ 2 ∷ 6 ∷ 10 ∷ 1 ∷ 2 ∷ 2 ∷ 0 ∷ [])
 
 -- the buffers of S2
 unfoldable pub before2 : State

@@ -38,6 +38,7 @@ pub fn start() -> Reading
         q: 0,
         banks: 0,
         threads: 0,
+        profile: 0,
     };
     let head = Head {
         last: 0,

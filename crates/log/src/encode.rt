@@ -3,6 +3,7 @@
 use log_bytes::tests::and;
 use log_format::Entry;
 use log_frame::frame;
+use log_start::put_mark;
 use log_start::put_seeds;
 use log_start::put_setting;
 use log_write::put_record;
@@ -73,8 +74,8 @@ pub extern "C" fn throttle_log_seal(block: &mut [u8; 512], number: u64, count: u
 
 // ---- block 0
 
-// Each of the nine numbers fits 32 bits.
-fn setting_fits(setting: &[u64; 9]) -> bool
+// Each of the nine numbers before the mark fits 32 bits.
+fn setting_fits(setting: &[u64; 10]) -> bool
     ensures { λ r. ⌜ r ≡ every 9 (λ i. ltb (getD (now (setting .entry)) i 0) (2 ^ 32)) ⌝ }
 {
     let mut ok = true;
@@ -84,21 +85,23 @@ fn setting_fits(setting: &[u64; 9]) -> bool
     ok
 }
 
-// Writes block 0. 1 for a field that does not fit 32 bits, or other than 64 seeds; whether the setting is accepted is not asked.
-// It rules out: a writer that numbers the block 1, and one that writes the seeds over the setting.
+// Writes block 0. 1 for a field that does not fit 32 bits, a mark above 1, or other than 64 seeds; whether the setting is accepted is not asked.
+// It rules out: a writer that numbers the block 1, one that writes the seeds over the setting, and one that leaves the mark out.
 #[no_mangle]
 pub extern "C" fn throttle_log_start(
-    setting: &[u64; 9],
+    setting: &[u64; 10],
     seeds: &[u16],
     block: &mut [u8; 512],
 ) -> u32
     ensures { λ r. ⌜ written r (now (block .exit)) ≡ startWritten (now (block .entry)) (now (setting .entry)) (now (seeds .entry)) ⌝ }
 {
-    if !and(setting_fits(setting), seeds.len() == 64) {
+    let mark = setting[9];
+    if !and(and(setting_fits(setting), mark < 2), seeds.len() == 64) {
         return 1;
     }
     put_setting(block, setting);
     put_seeds(block, seeds);
-    frame(block, 0, 0, 172);
+    put_mark(block, mark);
+    frame(block, 0, 0, 173);
     0
 }

@@ -72,7 +72,7 @@ module _ (p : Policy) where
 
   -- ---- the whole log
 
-  blocks-first : (bytes : List ℕ) (b n : ℕ) → 1 ≤ n → blocksFrom bytes b n ≡ blockAt bytes b ∷ blocksFrom bytes (suc b) (n - 1)
+  pub blocks-first : (bytes : List ℕ) (b n : ℕ) → 1 ≤ n → blocksFrom bytes b n ≡ blockAt bytes b ∷ blocksFrom bytes (suc b) (n - 1)
   blocks-first bytes b zero h = absurd (omega arith)
   blocks-first bytes b (suc n) h = let e : suc n - 1 ≡ n = omega arith in rw e
 

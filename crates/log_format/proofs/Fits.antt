@@ -1,21 +1,23 @@
 -- What the encoder's tests give where they hold, and where they do.
 use mathlib.Core.Path.{_≡_}
 use mathlib.Core.List.{List}
-use mathlib.Core.Bool.{true}
+use mathlib.Core.Bool.{true, _&&_}
 use Prim.Native.Nat.{ℕ, _^_, _≤_, _<_}
 use native.Mathlib.Omega.{arith}
 use borrow.Author.Tests.{lt-ltb, le-leb, eq-eqb}
 use lib.Dec.{T, ltb, eqb, leb→le, ltb→lt, eqb→eq}
 use lib.ListN.{length, getD}
+use lib.Seq.{sets}
 use Rattle.rules.specs.Cells.{every}
 use Rattle.rules.specs.Answers.{none}
-use Rattle.rules.specs.Setting.{settingOf, settingRefusal}
+use Rattle.rules.specs.Setting.{settingOf, known, settingRefusal}
 use Rattle.rules.specs.declared.Limits.{Limits}
-use Rattle.rules.proofs.Tests.{and-l, and-r, holds}
+use Rattle.rules.proofs.Tests.{and-l, and-r, is-true, holds}
 use Rattle.rules.proofs.Places.{seeds-long}
 use Rattle.rules.proofs.Accept.{accepted, scale-pos}
 use Rattle.log_format.specs.declared.Entry.{Entry}
-use Rattle.log_format.specs.Encode.{written, putRecord, recordFits, recordWritten, sealFits, sealWritten, startFits, startBlock, startWritten, putRecords, recordsBlock}
+use Rattle.log_format.specs.Bytes.{bytesOf}
+use Rattle.log_format.specs.Encode.{written, putRecord, recordFits, recordWritten, framed, sealFits, sealWritten, numbersBytes, startFits, putStart, startBlock, startWritten, putRecords, recordsBlock}
 use Rattle.log_format.specs.Claims.{Writable}
 
 pub record Fitting (k : ℕ) (e : Entry) : Type 0 where
@@ -64,7 +66,14 @@ pub start-seeds : (setting seeds : List ℕ) → startFits setting seeds ≡ tru
 unfolding startFits
 start-seeds setting seeds h =
     let t : T (startFits setting seeds) = holds (startFits setting seeds) h in
-    eqb→eq (length seeds) 64 (and-r (every 9 (λ i. ltb (getD setting i 0) (2 ^ 32))) (eqb (length seeds) 64) t)
+    eqb→eq (length seeds) 64 (and-r (every 9 (λ i. ltb (getD setting i 0) (2 ^ 32)) && known (getD setting 9 0)) (eqb (length seeds) 64) t)
+
+-- block 0, store by store
+pub start-stores : (s setting seeds numbered seeded marked block : List ℕ) → startFits setting seeds ≡ true
+    → numbered ≡ sets s 8 (numbersBytes 4 setting 0 9) → seeded ≡ sets numbered 44 (numbersBytes 2 seeds 0 64)
+    → marked ≡ sets seeded 172 (bytesOf 1 (getD setting 9 0)) → block ≡ framed marked 0 0 173 → written 0 block ≡ startWritten s setting seeds
+unfolding startWritten startBlock putStart
+start-stores s setting seeds numbered seeded marked block fits e1 e2 e3 e4 = rw (fits, e4, e3, e2, e1)
 
 -- ---- calls that are not refused
 
@@ -97,5 +106,6 @@ start-call m s setting seeds e =
       lt-ltb (getD setting 6 0) (2 ^ 32) (omega (arith, ok .ranges .q-high)),
       lt-ltb (getD setting 7 0) (2 ^ 32) (omega (arith, ok .ranges .banks-high)),
       lt-ltb (getD setting 8 0) (2 ^ 32) (omega (arith, ok .ranges .threads-high)),
+      is-true (known (getD setting 9 0)) (ok .ranges .mark),
       eq-eqb (length seeds) 64 (seeds-long seeds (ok .seeds-ok)),
     )

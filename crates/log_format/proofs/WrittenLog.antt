@@ -5,26 +5,26 @@ use mathlib.Core.Bool.{Bool, true, false, _||_}
 use Prim.Native.Nat.{ℕ, zero, suc, _+_, _-_, _*_, _/_, _^_, _≤_, _<_, min}
 use native.Mathlib.Omega.{arith}
 use native.Mathlib.Nat.{zero-add}
-use lib.Dec.{leb}
+use lib.Dec.{leb, ltb→lt}
 use lib.ListN.{length, getD, take, drop, length-append, length-take, length-drop, take-append-drop}
 use lib.Seq.{sets, length-sets, ext-getD, take-at, drop-at}
-use borrow.Author.Tests.{le-leb}
+use borrow.Author.Tests.{lt-ltb, le-leb}
 use Rattle.rules.specs.Cells.{All}
-use Rattle.rules.specs.Setting.{settingOf}
+use Rattle.rules.specs.Setting.{settingOf, known}
 use Rattle.rules.specs.declared.Limits.{Limits}
 use Rattle.rules.specs.Policy.{Policy}
 use Rattle.rules.proofs.Places.{seed-small, seeds-long}
 use Rattle.rules.proofs.Accept.{accepted, scale-pos}
 use Rattle.rules.specs.Tested.{Accepted}
 use Rattle.log_format.specs.declared.Entry.{Entry}
-use Rattle.log_format.specs.Bytes.{little, zeros, blockAt, blocksFrom}
+use Rattle.log_format.specs.Bytes.{little, bytesOf, zeros, blockAt, blocksFrom}
 use Rattle.log_format.specs.Refusals.{sound}
-use Rattle.log_format.specs.Contents.{countIn, settingIn, halves, seedsIn}
+use Rattle.log_format.specs.Contents.{countIn, markIn, settingIn, halves, seedsIn}
 use Rattle.log_format.specs.Blocks.{startLaidOut, inTurn, laidOut, blockRefusal}
 use Rattle.log_format.specs.Encode.{numbersBytes, putStart, startBlock, recordsBlock, laterBlocks, joined, logBytesOver}
 use Rattle.log_format.specs.Claims.{settingOfLog, seedsOfLog, laterOf, entriesOf, recordsOf, SoundFrom, Faithful, Writable, WrittenAgrees}
 use Rattle.log_format.proofs.Numbers.{length-halves, getD-halves}
-use Rattle.log_format.proofs.ReadBack.{little-same, little-below, zeros-all, numbers-read}
+use Rattle.log_format.proofs.ReadBack.{little-same, little-one, little-below, little-put, zeros-all, numbers-read}
 use Rattle.log_format.proofs.Framed.{Frame, frame-of}
 use Rattle.log_format.proofs.Written.{records-frame, records-read, records-sound}
 use Rattle.log_format.proofs.Agrees.{whenever}
@@ -32,39 +32,62 @@ use Rattle.log_format.proofs.Agrees.{whenever}
 -- ---- block 0
 
 module _ (s setting seeds : List ℕ) (len : length s ≡ 512) where
-  start-frame : Frame (putStart s setting seeds) 0 0 172 (startBlock s setting seeds)
+  -- the block with the numbers of the setting, and with the seeds too
+  abbrev numbered : List ℕ
+  numbered = sets s 8 (numbersBytes 4 setting 0 9)
+
+  abbrev seeded : List ℕ
+  seeded = sets numbered 44 (numbersBytes 2 seeds 0 64)
+
+  seeded-long : length seeded ≡ 512
+  seeded-long = length-sets numbered 44 (numbersBytes 2 seeds 0 64) ∙ length-sets s 8 (numbersBytes 4 setting 0 9) ∙ len
+
+  start-frame : Frame (putStart s setting seeds) 0 0 173 (startBlock s setting seeds)
   unfolding startBlock putStart
   start-frame =
-      let l = sets s 8 (numbersBytes 4 setting 0 9) in
-      frame-of (putStart s setting seeds) 0 0 172
-      (length-sets l 44 (numbersBytes 2 seeds 0 64) ∙ length-sets s 8 (numbersBytes 4 setting 0 9) ∙ len)
+      frame-of (putStart s setting seeds) 0 0 173 (length-sets seeded 172 (bytesOf 1 (getD setting 9 0)) ∙ seeded-long)
       (omega arith) (omega arith) (omega arith) (omega arith)
 
-  pub start-sound : blockRefusal (startBlock s setting seeds) 0 0 ≡ sound
+  -- the mark, a number of one byte
+  start-mark : getD setting 9 0 < 256 → markIn (startBlock s setting seeds) ≡ getD setting 9 0
+  unfolding putStart
+  start-mark b =
+      start-frame .body 172 (omega arith) (omega arith)
+      ∙ sym (little-one (sets seeded 172 (bytesOf 1 (getD setting 9 0))) 172)
+      ∙ little-put seeded 172 1 (getD setting 9 0) (omega (arith, seeded-long)) (omega arith)
+
+  -- an accepted setting has the mark of a profile
+  low-mark : (m : Limits) → Accepted m (settingOf setting) seeds → getD setting 9 0 < 2
+  unfolding settingOf
+  low-mark m ok = ltb→lt (getD setting 9 0) 2 (ok .ranges .mark)
+
+  pub start-sound : (m : Limits) → Accepted m (settingOf setting) seeds → blockRefusal (startBlock s setting seeds) 0 0 ≡ sound
   unfolding blockRefusal laidOut startLaidOut
-  start-sound =
+  start-sound m ok =
       let f = start-frame in
       let t = startBlock s setting seeds in
-      let z : zeros t 172 336 ≡ true = zeros-all t 172 336 (λ j a b. f .zeros-after j a b) in
-      rw (f .check, f .number, f .zeros-head, f .count, z)
+      let low = low-mark m ok in
+      let z : zeros t 173 335 ≡ true = zeros-all t 173 335 (λ j a b. f .zeros-after j a b) in
+      let mark : known (markIn t) ≡ true = rw (start-mark (omega arith)) (lt-ltb (getD setting 9 0) 2 low) in
+      rw (f .check, f .number, f .zeros-head, f .count, mark, z)
 
   -- number i of the setting
   start-number : (i : ℕ) → i < 9 → getD setting i 0 < 256 ^ 4 → little (startBlock s setting seeds) (8 + 4 * i) 4 ≡ getD setting i 0
   unfolding putStart
   start-number i h b =
-      let l = sets s 8 (numbersBytes 4 setting 0 9) in
       let r = numbers-read s setting 8 4 0 9 i (omega arith) h (rw (zero-add i) b) in
-      little-same (startBlock s setting seeds) (putStart s setting seeds) (8 + 4 * i) 4 8 172 (start-frame .body) (omega arith) (omega arith)
-      ∙ little-below l (numbersBytes 2 seeds 0 64) 44 (8 + 4 * i) 4 (omega arith)
+      little-same (startBlock s setting seeds) (putStart s setting seeds) (8 + 4 * i) 4 8 173 (start-frame .body) (omega arith) (omega arith)
+      ∙ little-below seeded (bytesOf 1 (getD setting 9 0)) 172 (8 + 4 * i) 4 (omega arith)
+      ∙ little-below numbered (numbersBytes 2 seeds 0 64) 44 (8 + 4 * i) 4 (omega arith)
       ∙ (rw (zero-add i) at r)
 
   -- seed i
   start-seed : (i : ℕ) → i < 64 → getD seeds i 0 < 256 ^ 2 → little (startBlock s setting seeds) (44 + 2 * i) 2 ≡ getD seeds i 0
   unfolding putStart
   start-seed i h b =
-      let l = sets s 8 (numbersBytes 4 setting 0 9) in
-      let r = numbers-read l seeds 44 2 0 64 i (omega (arith, length-sets s 8 (numbersBytes 4 setting 0 9))) h (rw (zero-add i) b) in
-      little-same (startBlock s setting seeds) (putStart s setting seeds) (44 + 2 * i) 2 8 172 (start-frame .body) (omega arith) (omega arith)
+      let r = numbers-read numbered seeds 44 2 0 64 i (omega (arith, length-sets s 8 (numbersBytes 4 setting 0 9))) h (rw (zero-add i) b) in
+      little-same (startBlock s setting seeds) (putStart s setting seeds) (44 + 2 * i) 2 8 173 (start-frame .body) (omega arith) (omega arith)
+      ∙ little-below seeded (bytesOf 1 (getD setting 9 0)) 172 (44 + 2 * i) 2 (omega arith)
       ∙ (rw (zero-add i) at r)
 
   pub start-setting : (m : Limits) → Accepted m (settingOf setting) seeds → settingIn (startBlock s setting seeds) ≡ settingOf setting
@@ -80,6 +103,7 @@ module _ (s setting seeds : List ℕ) (len : length s ≡ 512) where
         start-number 6 (omega arith) (omega (arith, ok .ranges .q-high)),
         start-number 7 (omega arith) (omega (arith, ok .ranges .banks-high)),
         start-number 8 (omega arith) (omega (arith, ok .ranges .threads-high)),
+        start-mark (omega (arith, low-mark m ok)),
       )
 
   pub start-seeds : (m : Limits) → Accepted m (settingOf setting) seeds → seedsIn (startBlock s setting seeds) ≡ seeds
@@ -186,7 +210,7 @@ written-agrees p old setting seeds es len e w few d =
     let seeds-is : seedsOfLog bytes ≡ seeds = ap seedsIn b0 ∙ start-seeds (old 0) setting seeds (len 0) (p .limits) ok in
     let faithful : Faithful p bytes =
     record {
-      wellFormed = record { whole = omega arith; some = omega arith; start = rw b0 (start-sound (old 0) setting seeds (len 0)); later = rw bs (f .blocks) };
+      wellFormed = record { whole = omega arith; some = omega arith; start = rw b0 (start-sound (old 0) setting seeds (len 0) (p .limits) ok); later = rw bs (f .blocks) };
       accepted = rw (set-is, seeds-is) e;
       decided = rw (es-is, set-is, seeds-is) d;
     } in

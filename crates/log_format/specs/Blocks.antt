@@ -5,9 +5,10 @@ use Prim.Native.Nat.{ℕ, zero, suc, _+_, _-_, _*_, _%_}
 use lib.Dec.{leb, eqb}
 use lib.ListN.{getD}
 use Rattle.rules.specs.Cells.{between, every}
+use Rattle.rules.specs.Setting.{known}
 use Rattle.log_format.specs.Bytes.{little, zeros}
 use Rattle.log_format.specs.Refusals.{LogRefusal, wrongCheck, badContents, sound, refuseLog}
-use Rattle.log_format.specs.Contents.{countIn, recordAt}
+use Rattle.log_format.specs.Contents.{countIn, markIn, recordAt}
 
 -- the sum of the first n bytes
 unfoldable pub sumTo : List ℕ → ℕ → ℕ
@@ -23,9 +24,9 @@ weightedTo s (suc n) = weightedTo s n + (n + 1) * getD s n 0
 unfoldable pub checked : List ℕ → Bool
 checked s = eqb (little s 508 2) (sumTo s 508 % 65521) && eqb (little s 510 2) (weightedTo s 508 % 65521)
 
--- "Block 0 has count 0, the nine numbers of the setting .., 64 seeds .., then zeros."
+-- "Block 0 has count 0, the nine numbers of the setting .., 64 seeds ..", a mark that a profile has ("Any other mark is .. 13 in a log"), "then zeros."
 unfoldable pub startLaidOut : List ℕ → Bool
-startLaidOut s = eqb (countIn s) 0 && zeros s 172 336
+startLaidOut s = eqb (countIn s) 0 && known (markIn s) && zeros s 173 335
 
 -- "A kind above 1 or an answer above 4 is 13"; ".. two zeros."
 unfoldable pub recordLaidOut : List ℕ → ℕ → Bool

@@ -1,4 +1,4 @@
--- What a block holds: block 0 the setting and the seeds, later blocks records.
+-- What a block holds: block 0 the setting, the seeds and the profile mark, later blocks records.
 use mathlib.Core.List.{List, [], _∷_}
 use mathlib.Core.Bool.{cond}
 use Prim.Native.Nat.{ℕ, zero, suc, _+_, _*_}
@@ -13,7 +13,11 @@ use Rattle.log_format.specs.Bytes.{little}
 abbrev pub countIn : List ℕ → ℕ
 countIn s = getD s 4 0
 
--- "Block 0 has .. the nine numbers of the setting in table order (32 bits each; banks, then threads)": the body starts at byte 8
+-- "The mark lies in the first zero byte after the seeds in block 0" (document 02, g)
+abbrev pub markIn : List ℕ → ℕ
+markIn s = getD s 172 0
+
+-- "Block 0 has .. the nine numbers of the setting in table order (32 bits each; banks, then threads)": the body starts at byte 8. The mark is the tenth.
 unfoldable pub settingIn : List ℕ → Setting
 settingIn s =
     record {
@@ -26,6 +30,7 @@ settingIn s =
       q = little s 32 4;
       banks = little s 36 4;
       threads = little s 40 4;
+      profile = markIn s;
     }
 
 -- the n numbers of 16 bits from place k on

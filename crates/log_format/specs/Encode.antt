@@ -6,6 +6,7 @@ use lib.Dec.{leb, ltb, eqb}
 use lib.ListN.{length, getD, take, drop, replicate}
 use lib.Seq.{sets}
 use Rattle.rules.specs.Cells.{between, every}
+use Rattle.rules.specs.Setting.{known}
 use Rattle.log_format.specs.declared.Entry.{Entry}
 use Rattle.log_format.specs.Bytes.{bytesOf}
 use Rattle.log_format.specs.Contents.{recordAt}
@@ -77,19 +78,19 @@ unfoldable pub numbersBytes : ℕ → List ℕ → ℕ → ℕ → List ℕ
 numbersBytes n xs i zero = []
 numbersBytes n xs i (suc m) = bytesOf n (getD xs i 0) ++ numbersBytes n xs (suc i) m
 
--- a setting of nine numbers of 32 bits, and 64 seeds
+-- a setting of nine numbers of 32 bits and a mark that a profile has, and 64 seeds
 unfoldable pub startFits : List ℕ → List ℕ → Bool
-startFits setting seeds = every 9 (λ i. ltb (getD setting i 0) (2 ^ 32)) && eqb (length seeds) 64
+startFits setting seeds = every 9 (λ i. ltb (getD setting i 0) (2 ^ 32)) && known (getD setting 9 0) && eqb (length seeds) 64
 
--- the block with the setting and the seeds in its body
+-- the block with the setting, the seeds and the mark in its body
 unfoldable pub putStart : List ℕ → List ℕ → List ℕ → List ℕ
-putStart s setting seeds = sets (sets s 8 (numbersBytes 4 setting 0 9)) 44 (numbersBytes 2 seeds 0 64)
+putStart s setting seeds = sets (sets (sets s 8 (numbersBytes 4 setting 0 9)) 44 (numbersBytes 2 seeds 0 64)) 172 (bytesOf 1 (getD setting 9 0))
 
 -- block 0, written into a block s
 unfoldable pub startBlock : List ℕ → List ℕ → List ℕ → List ℕ
-startBlock s setting seeds = framed (putStart s setting seeds) 0 0 172
+startBlock s setting seeds = framed (putStart s setting seeds) 0 0 173
 
--- block 0, or 1 where a field is far out of range or there are other than 64 seeds
+-- block 0, or 1 where a field is far out of range, no profile has the mark or there are other than 64 seeds
 unfoldable pub startWritten : List ℕ → List ℕ → List ℕ → Written
 startWritten s setting seeds = writtenIf (startFits setting seeds) 1 (startBlock s setting seeds) s
 

@@ -26,11 +26,12 @@ fn is_later(block: &[u8; 512]) -> bool
     )
 }
 
-// The body of block 0.
+// The body of block 0, with the mark of a profile behind the seeds.
 fn is_start(block: &[u8; 512]) -> bool
     ensures { λ r. ⌜ r ≡ startLaidOut (now (block .entry)) ⌝ }
 {
-    and(byte(block, 4) == 0, are_zero(block, 172, 336))
+    let counted = and(byte(block, 4) == 0, byte(block, 172) < 2);
+    and(counted, are_zero(block, 173, 335))
 }
 
 // A block after block 1 follows one of 20 records.

@@ -30,6 +30,7 @@ pub fn setting(block: &[u8; 512]) -> Setting
         q: word32(block, 32),
         banks: word32(block, 36),
         threads: word32(block, 40),
+        profile: byte(block, 172),
     }
 }
 

@@ -39,7 +39,7 @@ writable tick answer wait t w a =
 agreeing : (es : List Entry) → All Writable es → length es ≤ 20 * (2 ^ 32 - 1) → Decided es (rulesSay narrow S house es)
     → verdict narrow (logS es) ≡ judged (length es) (rulesOpen narrow S house es) agrees
 unfolding logS settingOf house historyLength rowBound fieldsInRange seedsInRange settingRefusal
-agreeing es w few d = theorems .writtenAgrees narrow (λ b. replicate 512 0) (40 ∷ 1 ∷ 4 ∷ 2 ∷ 6 ∷ 10 ∷ 4 ∷ 1 ∷ 1 ∷ []) house es (λ b. refl) refl w few d
+agreeing es w few d = theorems .writtenAgrees narrow (λ b. replicate 512 0) (40 ∷ 1 ∷ 4 ∷ 2 ∷ 6 ∷ 10 ∷ 4 ∷ 1 ∷ 1 ∷ 0 ∷ []) house es (λ b. refl) refl w few d
 
 -- the four records, and what the rules say of them
 records : List Entry

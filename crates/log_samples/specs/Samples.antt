@@ -14,9 +14,9 @@ use Rattle.log_format.specs.Encode.{logBytes}
 abbrev pub asks : ℕ → ℕ → ℕ → Entry
 asks tick answer wait = record { tick = tick; wait = wait; row = 5; bank = 0; thread = 0; kind = 0; answer = answer }
 
--- "S with house seeds": W 40, tRC 1, tFAW 4, N 2, tD 6, L 10, Q 4, 1 bank, 1 thread
+-- "S with house seeds": W 40, tRC 1, tFAW 4, N 2, tD 6, L 10, Q 4, 1 bank, 1 thread, of the large profile
 unfoldable pub logS : List Entry → List ℕ
-logS es = logBytes (replicate 512 0) (40 ∷ 1 ∷ 4 ∷ 2 ∷ 6 ∷ 10 ∷ 4 ∷ 1 ∷ 1 ∷ []) house es
+logS es = logBytes (replicate 512 0) (40 ∷ 1 ∷ 4 ∷ 2 ∷ 6 ∷ 10 ∷ 4 ∷ 1 ∷ 1 ∷ 0 ∷ []) house es
 
 pub record Cases : Type 0 where
   -- "four records (ticks 0, 1, 2 wait 7, 7) prints `records 4`, `opened 3`, `agrees`"

@@ -1,5 +1,5 @@
 // Which delays tD a setting is accepted with: the least and the greatest, or the refusal that stands in the way.
-// The functions take the limits of a width; an exported call fixes them.
+// The functions take the limits of a width, which an exported call fixes, and those of the profile that the setting names.
 // The definitions that the contracts cite are in specs/ and in the crate `plan_delays`, with the statements of what they mean.
 use plan_delays::Plan;
 ghost use mathlib.Core.Path.{_≡_};
@@ -8,7 +8,7 @@ ghost use Rattle.rules.specs.Answers.{refusalNumber};
 ghost use Rattle.rules.specs.Setting.{settingOf, rowBound};
 ghost use Rattle.rules.specs.Policy.{limits01};
 ghost use Rattle.plan_delays.specs.Delays.{withDelay, withThreshold, delayRefusal, AcceptedDelay};
-ghost use Rattle.plan_delays.specs.Answer.{smallestDelay, greatestDelay, delaysAbove, delaysOf};
+ghost use Rattle.plan_delays.specs.Answer.{smallestDelay, leastDelay, greatestDelay, delaysWithin, delaysAbove, delaysOf};
 ghost use Rattle.plan.specs.Plan.{hasDelay, Last, Served, costOf, left, leaves};
 
 // What a setting costs.
@@ -77,6 +77,25 @@ fn greatest_delay(m: rules::Limits, s: rules::Setting) -> u64
     smaller(s.w / 2, m.history / 4 * s.tfaw)
 }
 
+// The delays that the setting's profile accepts of those from least to greatest, or 16 where it accepts none of them.
+fn delays_within(m: rules::Limits, s: rules::Setting, least: u64, greatest: u64) -> Plan
+    requires { ⌜ (s .tfaw ≤ 65535) × (least ≡ leastDelay s) × (greatest ≡ greatestDelay m s) ⌝ }
+    ensures { λ r. ⌜ r ≡ delaysWithin m s ⌝ }
+{
+    let own = setting::profile(s.profile);
+    let last = smaller(greatest, own.history / 4 * s.tfaw);
+    if own.banks < s.banks {
+        return Plan::Nothing { refusal: 16 };
+    }
+    if last < least {
+        return Plan::Nothing { refusal: 16 };
+    }
+    Plan::Between {
+        least,
+        greatest: last,
+    }
+}
+
 // The delays of a setting whose other fields are in range, with room for two bursts in the window and L above 2N.
 fn delays_above(m: rules::Limits, s: rules::Setting) -> Plan
     requires { ⌜ Served m × (1 ≤ s .w) × (s .w ≤ 2 ^ 30) × (2 * s .n * s .trc ≤ s .w - 1) × (2 * s .n < s .l) × (s .n ≤ 2 ^ 20) × (s .tfaw ≤ 65535) ⌝ }
@@ -86,7 +105,7 @@ fn delays_above(m: rules::Limits, s: rules::Setting) -> Plan
     let least = greater(s.trc, smallest);
     let greatest = greatest_delay(m, s);
     if least <= greatest {
-        return Plan::Between { least, greatest };
+        return delays_within(m, s, least, greatest);
     }
     if 536870912 < smallest {
         return Plan::Nothing { refusal: 5 };
@@ -178,9 +197,10 @@ pub fn costs(m: rules::Limits, s: rules::Setting, td: u64) -> Cost
 
 // The delays for C, with the limits of 16-bit counters: 0, and the least and the greatest delay in out; or the number of the refusal,
 // and out as it was.
-// It rules out: an end that is off by one, an interval that leaves out an accepted delay, a refusal where a delay is accepted.
+// It rules out: an end that is off by one, an interval that leaves out an accepted delay, a refusal where a delay is accepted, a delay that the
+// profile excludes.
 #[no_mangle]
-pub extern "C" fn throttle_delays(setting: &[u64; 9], out: &mut [u64; 2]) -> u32
+pub extern "C" fn throttle_delays(setting: &[u64; 10], out: &mut [u64; 2]) -> u32
     ensures { λ r. ⌜ left r (now (out .exit)) ≡ leaves (delaysOf limits01 (settingOf (now (setting .entry)))) (now (out .entry)) ⌝ }
 {
     let answer = delays(setting::narrow_limits(), setting::load(setting));

@@ -1,4 +1,4 @@
-// The command line of the program plan_settings: its words as numbers, and messages on what is wrong with them.
+// The command line of the program plan_settings: its words as numbers, its option, and messages on what is wrong with them.
 ghost use mathlib.Core.Path.{_≡_};
 ghost use Rattle.plan_arguments.specs.Decimal.{numberOf, wrong as Decimal·wrong};
 
@@ -59,4 +59,16 @@ pub fn argument(i: usize) -> Number {
         return wrong();
     }
     read_word(&word[..n])
+}
+
+// Whether argument 1 is the option of the small profile.
+pub fn is_small() -> bool {
+    let mut word = [0u8; 8];
+    let n = os::arg(1, &mut word);
+    if os::errno() != 0 || n != 7 {
+        return false;
+    }
+    let dashes = word[0] == b'-' && word[1] == b'-';
+    let first = word[2] == b's' && word[3] == b'm' && word[4] == b'a';
+    dashes && first && word[5] == b'l' && word[6] == b'l'
 }

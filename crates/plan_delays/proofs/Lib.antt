@@ -4,5 +4,6 @@ pub mod Interval
 pub mod Answer
 pub mod Trade
 pub mod Only
+pub mod Profiles
 pub mod Theorems
 pub mod Samples

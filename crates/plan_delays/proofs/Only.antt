@@ -9,13 +9,13 @@ use lib.Dec.{ltb}
 use borrow.Author.Tests.{ltb-true, ltb-false, le-ltb, lt-ltb}
 use Rattle.rules.specs.declared.Setting.{Setting}
 use Rattle.rules.specs.declared.Limits.{Limits}
-use Rattle.rules.specs.Answers.{Refusal, outOfRange, shortWindow, aboveLimit, refusalNumber}
+use Rattle.rules.specs.Answers.{Refusal, outOfRange, shortWindow, aboveLimit, aboveProfile, refusalNumber}
 use Rattle.rules.specs.Setting.{epochLength, historyLength, rowBound}
 use Rattle.plan_delays.specs.declared.Plan.the-variants.{Between, Nothing}
-use Rattle.plan_delays.specs.Delays.{withDelay, delayRefusal, InRange, Ends, Smallest, Reason, everyDelay, smallestDelay, noDelay}
+use Rattle.plan_delays.specs.Delays.{withDelay, delayRefusal, InRange, Ends, Smallest, Reason, everyDelay, onlyProfile, smallestDelay, noDelay}
 use Rattle.plan_delays.specs.Claims.{OnlyOne}
-use Rattle.plan_delays.proofs.Shape.{Other, other, other-ranges, other-room, other-shape, late, lateOf, one}
-use Rattle.plan_delays.proofs.Interval.{history-ok}
+use Rattle.plan_delays.proofs.Shape.{exceedsOwn, Other, other, other-ranges, other-room, other-shape, late, lateOf, one}
+use Rattle.plan_delays.proofs.Interval.{history-ok, passes-large, never-above}
 use Rattle.plan_delays.proofs.Numbers.{epoch-holds}
 
 -- neither is below the other
@@ -39,22 +39,24 @@ same-ends m s a b c d x y =
 -- ---- the refusals
 
 -- the delay tRC is not refused with 3, the delay 1 not with 4, and both have B > L: the refusal that both get is 5
-late-both : (a b : Bool) → late false b true ≡ late a false true → late a false true ≡ aboveLimit
-late-both true true e = absurd (omega (arith, ap refusalNumber e))
-late-both true false e = absurd (omega (arith, ap refusalNumber e))
-late-both false b e = refl
+late-both : (a b c d : Bool) → late false b true c ≡ late a false true d → late a false true d ≡ aboveLimit
+late-both true true c d e = absurd (omega (arith, ap refusalNumber e))
+late-both true false c d e = absurd (omega (arith, ap refusalNumber e))
+late-both false b c d e = refl
 
-late-trc : (m : Limits) (s : Setting) → Other m s → s .l < rowBound (withDelay s (s .trc)) → lateOf m s (s .trc) ≡ late false (ltb (m .history) (historyLength (withDelay s (s .trc)))) true
+late-trc : (m : Limits) (s : Setting) → Other m s → s .l < rowBound (withDelay s (s .trc))
+    → lateOf m s (s .trc) ≡ late false (ltb (m .history) (historyLength (withDelay s (s .trc)))) true (exceedsOwn s (s .trc))
 late-trc m s o h =
     let r = other-ranges m s o in
     let epoch : s .trc ≤ epochLength s = epoch-holds (s .n) (s .trc) (s .w) (r .n-low) (other-room m s o) in
     simp (le-ltb (s .trc) (s .trc) (le-refl (s .trc)), le-ltb (epochLength s) (s .trc) epoch, lt-ltb (s .l) (rowBound (withDelay s (s .trc))) h)
 
-late-one : (m : Limits) (s : Setting) → 4 ≤ m .history → Other m s → s .l < rowBound (withDelay s 1) → lateOf m s 1 ≡ late (ltb 1 (s .trc) || ltb (epochLength s) 1) false true
+late-one : (m : Limits) (s : Setting) → 4 ≤ m .history → Other m s → s .l < rowBound (withDelay s 1)
+    → lateOf m s 1 ≡ late (ltb 1 (s .trc) || ltb (epochLength s) 1) false true (exceedsOwn s 1)
 late-one m s wide o h =
     let r = other-ranges m s o in
     let places : 1 ≤ m .history / 4 * s .tfaw = mul-le-mul {n₁ = 1} {m₁ = 1} (omega arith) (r .tfaw-low) in
-    simp (le-ltb (m .history) (historyLength (withDelay s 1)) (history-ok m s 1 (r .tfaw-low) places), lt-ltb (s .l) (rowBound (withDelay s 1)) h)
+    simp (le-ltb (m .history) (historyLength (withDelay s 1)) (history-ok s (m .history) 1 (r .tfaw-low) places), lt-ltb (s .l) (rowBound (withDelay s 1)) h)
 
 every-five : (m : Limits) (s : Setting) (r : Refusal) → 4 ≤ m .history → ((td : ℕ) → InRange td → delayRefusal m s td ≡ r)
     → ((td : ℕ) → InRange td → (s .l < rowBound (withDelay s td)) × (delayRefusal m s td ≢ outOfRange) × (delayRefusal m s td ≢ shortWindow))
@@ -65,7 +67,9 @@ every-five m s r wide f g =
     let trc : InRange (s .trc) = (k .trc-low, let h = k .trc-high in omega arith) in
     let x = sym (f (s .trc) trc) ∙ other-shape m s o (s .trc) trc ∙ late-trc m s o (g (s .trc) trc .0) in
     let y = sym (f 1 one) ∙ other-shape m s o 1 one ∙ late-one m s wide o (g 1 one .0) in
-    y ∙ late-both (ltb 1 (s .trc) || ltb (epochLength s) 1) (ltb (m .history) (historyLength (withDelay s (s .trc)))) (sym x ∙ y)
+    y
+    ∙ late-both (ltb 1 (s .trc) || ltb (epochLength s) 1) (ltb (m .history) (historyLength (withDelay s (s .trc)))) (exceedsOwn s (s .trc)) (exceedsOwn s 1)
+    (sym x ∙ y)
 
 -- a smallest delay, where there is none
 no-smallest : (m : Limits) (s : Setting) (d : ℕ) → Smallest s d → ((td : ℕ) → InRange td → (s .l < rowBound (withDelay s td)) × (delayRefusal m s td ≢ outOfRange) × (delayRefusal m s td ≢ shortWindow)) → ⊥
@@ -83,15 +87,31 @@ same-smallest s c d x y = neither-below c d (less s c d x y) (less s d c y x)
         let b = y .first c (x .in-range .0) h in
         omega arith
 
+-- a delay that gets 16, where every delay in range gets one refusal: it is in range
+same-above : (m : Limits) (s : Setting) (td : ℕ) (r : Refusal) → delayRefusal m s td ≡ aboveProfile → ((x : ℕ) → InRange x → delayRefusal m s x ≡ r) → refusalNumber r ≡ 16
+same-above m s td r e f = ap refusalNumber (sym (f td (passes-large m s td e .0)) ∙ e)
+
+-- one where no delay in range has B ≤ L
+no-above : (m : Limits) (s : Setting) (td : ℕ) → delayRefusal m s td ≡ aboveProfile
+    → ((x : ℕ) → InRange x → (s .l < rowBound (withDelay s x)) × (delayRefusal m s x ≢ outOfRange) × (delayRefusal m s x ≢ shortWindow)) → ⊥
+no-above m s td e g = never-above m s td e (g td (passes-large m s td e .0) .0)
+
 same-reason : (m : Limits) (s : Setting) (i j : ℕ) → 4 ≤ m .history → Reason m s i → Reason m s j → i ≡ j
 same-reason m s i j wide (everyDelay r e f) (everyDelay q k g) = e ∙ ap refusalNumber (sym (f 1 one) ∙ g 1 one) ∙ sym k
-same-reason m s i j wide (everyDelay r e f) (smallestDelay d x k) = e ∙ ap refusalNumber (sym (f d (x .in-range))) ∙ sym k
+same-reason m s i j wide (everyDelay r e f) (onlyProfile td k x) = e ∙ same-above m s td r x f ∙ sym k
+same-reason m s i j wide (everyDelay r e f) (smallestDelay d x n k) = e ∙ ap refusalNumber (sym (f d (x .in-range))) ∙ sym k
 same-reason m s i j wide (everyDelay r e f) (noDelay k g) = e ∙ ap refusalNumber (every-five m s r wide f g) ∙ sym k
-same-reason m s i j wide (smallestDelay d x k) (everyDelay r e f) = k ∙ ap refusalNumber (f d (x .in-range)) ∙ sym e
-same-reason m s i j wide (smallestDelay c x k) (smallestDelay d y e) = k ∙ ap (λ (z : ℕ). refusalNumber (delayRefusal m s z)) (same-smallest s c d x y) ∙ sym e
-same-reason m s i j wide (smallestDelay d x k) (noDelay e g) = absurd (no-smallest m s d x g)
+same-reason m s i j wide (onlyProfile td k x) (everyDelay r e f) = k ∙ sym (same-above m s td r x f) ∙ sym e
+same-reason m s i j wide (onlyProfile td k x) (onlyProfile te l y) = k ∙ sym l
+same-reason m s i j wide (onlyProfile td k x) (smallestDelay d y n l) = absurd (n td x)
+same-reason m s i j wide (onlyProfile td k x) (noDelay l g) = absurd (no-above m s td x g)
+same-reason m s i j wide (smallestDelay d x n k) (everyDelay r e f) = k ∙ ap refusalNumber (f d (x .in-range)) ∙ sym e
+same-reason m s i j wide (smallestDelay d y n l) (onlyProfile td k x) = absurd (n td x)
+same-reason m s i j wide (smallestDelay c x n k) (smallestDelay d y o e) = k ∙ ap (λ (z : ℕ). refusalNumber (delayRefusal m s z)) (same-smallest s c d x y) ∙ sym e
+same-reason m s i j wide (smallestDelay d x n k) (noDelay e g) = absurd (no-smallest m s d x g)
 same-reason m s i j wide (noDelay k g) (everyDelay r e f) = k ∙ ap refusalNumber (sym (every-five m s r wide f g)) ∙ sym e
-same-reason m s i j wide (noDelay k g) (smallestDelay d x e) = absurd (no-smallest m s d x g)
+same-reason m s i j wide (noDelay l g) (onlyProfile td k x) = absurd (no-above m s td x g)
+same-reason m s i j wide (noDelay k g) (smallestDelay d x n e) = absurd (no-smallest m s d x g)
 same-reason m s i j wide (noDelay k g) (noDelay e h) = k ∙ sym e
 
 pub only-one : OnlyOne

@@ -2,11 +2,11 @@
 use mathlib.Core.Path.{refl}
 use Rattle.rules.specs.Setting.{settingOf, historyLength, rowBound, fieldsInRange, seedsInRange, settingRefusal}
 use Rattle.plan_delays.specs.Delays.{delayRefusal}
-use Rattle.plan_delays.specs.Answer.{smallestDelay, leastDelay, greatestDelay, delaysAbove, delaysOf}
+use Rattle.plan_delays.specs.Answer.{smallestDelay, leastDelay, greatestDelay, ownGreatest, delaysWithin, delaysAbove, delaysOf}
 use Rattle.plan_delays.specs.Samples.{Cases}
 
 pub cases : Cases
-unfolding settingOf historyLength rowBound fieldsInRange seedsInRange settingRefusal delayRefusal smallestDelay leastDelay greatestDelay delaysAbove delaysOf
+unfolding settingOf historyLength rowBound fieldsInRange seedsInRange settingRefusal delayRefusal smallestDelay leastDelay greatestDelay ownGreatest delaysWithin delaysAbove delaysOf
 cases =
     record {
       table-one = refl;
@@ -19,4 +19,8 @@ cases =
       limit2048-last = (refl, refl);
       limit1788 = (refl, refl);
       s = refl;
+      small16384 = (refl, refl);
+      small8192 = (refl, refl);
+      small7145 = (refl, refl);
+      small5 = (refl, refl);
     }

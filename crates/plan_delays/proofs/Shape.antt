@@ -8,8 +8,8 @@ use lib.Dec.{ltb}
 use borrow.Author.Tests.{le-leb, le-ltb, ltb-false}
 use Rattle.rules.specs.declared.Setting.{Setting}
 use Rattle.rules.specs.declared.Limits.{Limits}
-use Rattle.rules.specs.Answers.{Refusal, none, outOfRange, shortWindow, badDelay, longHistory, aboveLimit, refusalNumber, refuse}
-use Rattle.rules.specs.Setting.{epochLength, historyLength, rowBound, fieldsInRange, seedsInRange, settingRefusal}
+use Rattle.rules.specs.Answers.{Refusal, none, outOfRange, shortWindow, badDelay, longHistory, aboveLimit, aboveProfile, refusalNumber, refuse}
+use Rattle.rules.specs.Setting.{epochLength, historyLength, rowBound, profileOf, exceeds, fieldsInRange, seedsInRange, settingRefusal}
 use Rattle.rules.proofs.Tests.{is-true, and-l, not-not}
 use Rattle.rules.proofs.Accept.{ranges, refuse-none}
 use Rattle.rules.specs.Tested.{Ranges}
@@ -26,13 +26,17 @@ others m s = fieldsInRange m (withDelay s 1)
 abbrev pub crowded : Setting → Bool
 crowded s = ltb (s .w - 1) (2 * s .n * s .trc)
 
--- refusals 3 to 5
-abbrev pub late : Bool → Bool → Bool → Refusal
-late a b c = refuse a badDelay (refuse b longHistory (refuse c aboveLimit none))
+-- refusal 16, by the history of a delay
+abbrev pub exceedsOwn : Setting → ℕ → Bool
+exceedsOwn s td = exceeds (profileOf (s .profile)) (s .banks) (historyLength (withDelay s td))
+
+-- refusals 3 to 5 and 16
+abbrev pub late : Bool → Bool → Bool → Bool → Refusal
+late a b c d = refuse a badDelay (refuse b longHistory (refuse c aboveLimit (refuse d aboveProfile none)))
 
 abbrev pub lateOf : Limits → Setting → ℕ → Refusal
 lateOf m s td =
-    late (ltb td (s .trc) || ltb (epochLength s) td) (ltb (m .history) (historyLength (withDelay s td))) (ltb (s .l) (rowBound (withDelay s td)))
+    late (ltb td (s .trc) || ltb (epochLength s) td) (ltb (m .history) (historyLength (withDelay s td))) (ltb (s .l) (rowBound (withDelay s td))) (exceedsOwn s td)
 
 seeds-ok : seedsInRange someSeeds ≡ true
 unfolding seedsInRange
@@ -60,14 +64,16 @@ shape m s td h = simp (any-delay m s td h, seeds-ok, and-true (others m s))
 
 -- ---- which of the first two it is
 
-late-number : (a b c : Bool) → (refusalNumber (late a b c) ≡ 1 → ⊥) × (refusalNumber (late a b c) ≡ 2 → ⊥)
-late-number true b c = (λ e. omega arith, λ e. omega arith)
-late-number false true c = (λ e. omega arith, λ e. omega arith)
-late-number false false true = (λ e. omega arith, λ e. omega arith)
-late-number false false false = (λ e. omega arith, λ e. omega arith)
+late-number : (a b c d : Bool) → (refusalNumber (late a b c d) ≡ 1 → ⊥) × (refusalNumber (late a b c d) ≡ 2 → ⊥)
+late-number true b c d = (λ e. omega arith, λ e. omega arith)
+late-number false true c d = (λ e. omega arith, λ e. omega arith)
+late-number false false true d = (λ e. omega arith, λ e. omega arith)
+late-number false false false true = (λ e. omega arith, λ e. omega arith)
+late-number false false false false = (λ e. omega arith, λ e. omega arith)
 
 pub late-of : (m : Limits) (s : Setting) (td : ℕ) → (refusalNumber (lateOf m s td) ≡ 1 → ⊥) × (refusalNumber (lateOf m s td) ≡ 2 → ⊥)
-late-of m s td = late-number (ltb td (s .trc) || ltb (epochLength s) td) (ltb (m .history) (historyLength (withDelay s td))) (ltb (s .l) (rowBound (withDelay s td)))
+late-of m s td =
+    late-number (ltb td (s .trc) || ltb (epochLength s) td) (ltb (m .history) (historyLength (withDelay s td))) (ltb (s .l) (rowBound (withDelay s td))) (exceedsOwn s td)
 
 -- refusal 1 or 2, by its number
 first-one : (f k : Bool) (r : Refusal) → (refusalNumber r ≡ 1 → ⊥) → refusalNumber (refuse (not f) outOfRange (refuse k shortWindow r)) ≡ 1 → f ≡ false
@@ -136,11 +142,17 @@ neither m s o td h =
 
 -- ---- accepted settings
 
-pub accept : (m : Limits) (x : Setting) → fieldsInRange m x ≡ true → 2 * x .n * x .trc ≤ x .w - 1 → x .trc ≤ x .td → x .td ≤ epochLength x
-    → historyLength x ≤ m .history → rowBound x ≤ x .l → settingRefusal m x someSeeds ≡ none
+-- a setting that meets none of 1 to 5: 16 decides
+pub by-profile : (m : Limits) (x : Setting) → fieldsInRange m x ≡ true → 2 * x .n * x .trc ≤ x .w - 1 → x .trc ≤ x .td → x .td ≤ epochLength x
+    → historyLength x ≤ m .history → rowBound x ≤ x .l
+    → settingRefusal m x someSeeds ≡ refuse (exceeds (profileOf (x .profile)) (x .banks) (historyLength x)) aboveProfile none
 unfolding settingRefusal
-accept m x f room gaps delay short bound =
+by-profile m x f room gaps delay short bound =
     simp (f, seeds-ok, le-ltb (x .w - 1) (2 * x .n * x .trc) room, le-ltb (x .td) (x .trc) gaps, le-ltb (epochLength x) (x .td) delay, le-ltb (m .history) (historyLength x) short, le-ltb (x .l) (rowBound x) bound)
+
+-- so many banks and so long a history are within the profile
+pub within-own : (s : Setting) (td : ℕ) → s .banks ≤ profileOf (s .profile) .banks → historyLength (withDelay s td) ≤ profileOf (s .profile) .history → exceedsOwn s td ≡ false
+within-own s td b h = simp (le-ltb (profileOf (s .profile) .banks) (s .banks) b, le-ltb (profileOf (s .profile) .history) (historyLength (withDelay s td)) h)
 
 pub accepted-fields : (m : Limits) (x : Setting) → settingRefusal m x someSeeds ≡ none → fieldsInRange m x ≡ true
 unfolding settingRefusal

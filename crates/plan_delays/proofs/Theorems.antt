@@ -3,6 +3,7 @@ use Rattle.plan_delays.specs.Claims.{Theorems}
 use Rattle.plan_delays.proofs.Shape.{seeds-play-no-part}
 use Rattle.plan_delays.proofs.Answer.{right, delay-plays-no-part}
 use Rattle.plan_delays.proofs.Only.{only-one}
+use Rattle.plan_delays.proofs.Profiles.{sixteen}
 use Rattle.plan_delays.proofs.Trade.{longer-delay, nested, grows, up-to-last, flat, decided}
 
 pub theorems : Theorems
@@ -13,6 +14,7 @@ theorems =
       seedsPlayNoPart = seeds-play-no-part;
       delayPlaysNoPart = delay-plays-no-part;
       longerDelay = longer-delay;
+      sixteen = sixteen;
       nested = nested;
       grows = grows;
       upToLast = up-to-last;

@@ -1,6 +1,6 @@
 -- The trade between N and tD: a smaller N keeps every accepted delay, so the least delay never falls as N grows.
 use mathlib.Core.Path.{_≡_, refl, sym, subst, _∙_}
-use mathlib.Core.Bool.{Bool, true, false, cond}
+use mathlib.Core.Bool.{Bool, true, false, _&&_, cond}
 use Prim.Native.Nat.{ℕ, _-_, _*_, _^_, _≤_, _<_}
 use native.Mathlib.Omega.{arith}
 use native.Mathlib.Nat.{le-trans, max-eq-left, max-eq-right}
@@ -9,15 +9,15 @@ use borrow.Author.Tests.{ltb-true, ltb-false}
 use Rattle.rules.specs.declared.Setting.{Setting}
 use Rattle.rules.specs.declared.Limits.{Limits}
 use Rattle.rules.specs.Answers.{refusalNumber}
-use Rattle.rules.specs.Setting.{historyLength, rowBound}
+use Rattle.rules.specs.Setting.{historyLength, rowBound, profileOf}
 use Rattle.rules.specs.Tested.{Accepted}
 use Rattle.plan_delays.specs.declared.Plan.{Plan}
 use Rattle.plan_delays.specs.declared.Plan.the-variants.{Between, Nothing}
 use Rattle.plan_delays.specs.Delays.{withDelay, withThreshold, someSeeds, delayRefusal, AcceptedDelay, Ends, Says}
-use Rattle.plan_delays.specs.Answer.{smallestDelay, leastDelay, greatestDelay, delaysAbove, delaysOf}
+use Rattle.plan_delays.specs.Answer.{smallestDelay, leastDelay, greatestDelay, ownGreatest, delaysWithin, delaysAbove, delaysOf}
 use Rattle.plan_delays.specs.Claims.{LongerDelay, Nested, Grows, UpToLast, Flat, Decided}
 use Rattle.plan_delays.proofs.Numbers.{quotient-falls, ceil-grows, bound-grows, room-kept, smallest-below, smallest-above}
-use Rattle.plan_delays.proofs.Shape.{any-threshold, accept, accepted-fields}
+use Rattle.plan_delays.proofs.Shape.{any-threshold, by-profile, within-own, accepted-fields}
 use Rattle.plan_delays.proofs.Interval.{accepted-delay, inside}
 use Rattle.plan_delays.proofs.Answer.{right}
 
@@ -47,9 +47,11 @@ nested m s n more td h k e =
     let x = withDelay (withThreshold s more) td in
     let a : Accepted m x someSeeds = accepted-delay m (withThreshold s more) td e in
     let f = any-threshold m s n more td h k (a .ranges .n-high) ∙ accepted-fields m x e in
-    accept m (withDelay (withThreshold s n) td) f (room-kept n more (s .trc) (s .w - 1) k (a .room)) (a .gaps) (a .delay)
-    (subst (λ (y : ℕ). y ≤ m .history) (history-same s more n td) (a .short))
+    let same = history-same s more n td in
+    by-profile m (withDelay (withThreshold s n) td) f (room-kept n more (s .trc) (s .w - 1) k (a .room)) (a .gaps) (a .delay)
+    (subst (λ (y : ℕ). y ≤ m .history) same (a .short))
     (le-trans (bound-smaller s n more td k (a .gaps) (a .ranges .td-low) (a .room)) (a .bound))
+    ∙ simp (within-own (withThreshold s n) td (a .banks-own) (subst (λ (y : ℕ). y ≤ profileOf (s .profile) .history) same (a .history-own)))
 
 -- ---- the answers for two thresholds
 
@@ -57,23 +59,25 @@ says : (m : Limits) (s : Setting) (p : Plan) → delaysOf m s ≡ p → Says m s
 says m s p e = subst (Says m s) e (right m s)
 
 -- the two ends of an answer are the closed form's
-pub ends-are : (m : Limits) (s : Setting) (a b : ℕ) → delaysOf m s ≡ Between a b → (a ≡ leastDelay s) × (b ≡ greatestDelay m s)
-unfolding delaysOf delaysAbove
+pub ends-are : (m : Limits) (s : Setting) (a b : ℕ) → delaysOf m s ≡ Between a b → (a ≡ leastDelay s) × (b ≡ ownGreatest m s)
+unfolding delaysOf delaysAbove delaysWithin
 ends-are m s a b e =
-    go (eqb (refusalNumber (delayRefusal m s 1)) 1) (eqb (refusalNumber (delayRefusal m s 1)) 2) (leb (s .l) (2 * s .n)) (leb (leastDelay s) (greatestDelay m s)) (ltb (2 ^ 29) (smallestDelay s)) _ e
+    go (eqb (refusalNumber (delayRefusal m s 1)) 1) (eqb (refusalNumber (delayRefusal m s 1)) 2) (leb (s .l) (2 * s .n)) (leb (leastDelay s) (greatestDelay m s))
+    (leb (s .banks) (profileOf (s .profile) .banks) && leb (leastDelay s) (ownGreatest m s)) (ltb (2 ^ 29) (smallestDelay s)) _ e
   where
-    go : (c1 c2 c3 c4 c5 : Bool) (r : ℕ)
-        → cond c1 (Nothing 1) (cond c2 (Nothing 2) (cond c3 (Nothing 5) (cond c4 (Between (leastDelay s) (greatestDelay m s)) (cond c5 (Nothing 5) (Nothing r))))) ≡ Between a b
-        → (a ≡ leastDelay s) × (b ≡ greatestDelay m s)
-    go true c2 c3 c4 c5 r e = let z : _≡_ {A = ℕ} 0 1 = cc in absurd (omega arith)
-    go false true c3 c4 c5 r e = let z : _≡_ {A = ℕ} 0 1 = cc in absurd (omega arith)
-    go false false true c4 c5 r e = let z : _≡_ {A = ℕ} 0 1 = cc in absurd (omega arith)
-    go false false false true c5 r e = ((cc), (cc))
-    go false false false false true r e = let z : _≡_ {A = ℕ} 0 1 = cc in absurd (omega arith)
-    go false false false false false r e = let z : _≡_ {A = ℕ} 0 1 = cc in absurd (omega arith)
+    go : (c1 c2 c3 c4 c5 c6 : Bool) (r : ℕ)
+        → cond c1 (Nothing 1) (cond c2 (Nothing 2) (cond c3 (Nothing 5) (cond c4 (cond c5 (Between (leastDelay s) (ownGreatest m s)) (Nothing 16)) (cond c6 (Nothing 5) (Nothing r))))) ≡ Between a b
+        → (a ≡ leastDelay s) × (b ≡ ownGreatest m s)
+    go true c2 c3 c4 c5 c6 r e = let z : _≡_ {A = ℕ} 0 1 = cc in absurd (omega arith)
+    go false true c3 c4 c5 c6 r e = let z : _≡_ {A = ℕ} 0 1 = cc in absurd (omega arith)
+    go false false true c4 c5 c6 r e = let z : _≡_ {A = ℕ} 0 1 = cc in absurd (omega arith)
+    go false false false true true c6 r e = ((cc), (cc))
+    go false false false true false c6 r e = let z : _≡_ {A = ℕ} 0 1 = cc in absurd (omega arith)
+    go false false false false c5 true r e = let z : _≡_ {A = ℕ} 0 1 = cc in absurd (omega arith)
+    go false false false false c5 false r e = let z : _≡_ {A = ℕ} 0 1 = cc in absurd (omega arith)
 
-greatest-same : (m : Limits) (s : Setting) (n more : ℕ) → greatestDelay m (withThreshold s n) ≡ greatestDelay m (withThreshold s more)
-unfolding greatestDelay
+greatest-same : (m : Limits) (s : Setting) (n more : ℕ) → ownGreatest m (withThreshold s n) ≡ ownGreatest m (withThreshold s more)
+unfolding ownGreatest greatestDelay
 greatest-same m s n more = refl
 
 -- an accepted delay is not below the least one

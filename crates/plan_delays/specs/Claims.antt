@@ -1,11 +1,14 @@
--- What is proved about the delays of a setting, for the limits m of every width: the statements, as types. Their proofs are in proofs/.
+-- What is proved about the delays of a setting, for the limits m of every width and the profile that the setting names: the statements, as types.
+-- Their proofs are in proofs/.
 use mathlib.Core.Path.{_≡_}
+use mathlib.Core.Logic.{_≢_}
 use mathlib.Core.List.{List}
 use Prim.Native.Nat.{ℕ, _-_, _*_, _≤_, _<_}
 use lib.Dec.{T}
 use Rattle.rules.specs.declared.Setting.{Setting}
 use Rattle.rules.specs.declared.Limits.{Limits}
-use Rattle.rules.specs.Setting.{historyLength, rowBound, seedsInRange, settingRefusal}
+use Rattle.rules.specs.Answers.{none}
+use Rattle.rules.specs.Setting.{withMark, known, historyLength, rowBound, seedsInRange, settingRefusal}
 use Rattle.plan_delays.specs.declared.Plan.{Plan}
 use Rattle.plan_delays.specs.declared.Plan.the-variants.{Between, Nothing}
 use Rattle.plan_delays.specs.Delays.{withDelay, withThreshold, delayRefusal, AcceptedDelay, Says}
@@ -34,6 +37,19 @@ abbrev pub LongerDelay : Type 0
 LongerDelay =
     (s : Setting) (a b : ℕ) → 1 ≤ a → a ≤ b → 1 ≤ s .tfaw
     → (rowBound (withDelay s b) ≤ rowBound (withDelay s a)) × (historyLength (withDelay s a) ≤ historyLength (withDelay s b))
+
+-- ---- profiles
+
+-- The answer 16 is given where only the profile excludes every delay: the large profile accepts one, and the setting's own accepts none. Where the
+-- large profile accepts none either, the answer is the large profile's.
+pub record ByProfile (m : Limits) (s : Setting) : Type 0 where
+  pub only : delaysOf m s ≡ Nothing 16 → (a : ℕ) × (b : ℕ) × (delaysOf m (withMark 0 s) ≡ Between a b)
+  pub excluded : (a b : ℕ) → delaysOf m (withMark 0 s) ≡ Between a b → ((td : ℕ) → delayRefusal m s td ≢ none) → delaysOf m s ≡ Nothing 16
+  pub asLarge : (number : ℕ) → delaysOf m (withMark 0 s) ≡ Nothing number → delaysOf m s ≡ Nothing number
+
+-- of every setting with the mark of a profile, where the limits allow a history at all
+abbrev pub Sixteen : Type 0
+Sixteen = (m : Limits) (s : Setting) → 4 ≤ m .history → T (known (s .profile)) → ByProfile m s
 
 -- ---- the trade between N and tD
 
@@ -69,6 +85,7 @@ pub record Theorems : Type 0 where
   pub seedsPlayNoPart : SeedsPlayNoPart
   pub delayPlaysNoPart : DelayPlaysNoPart
   pub longerDelay : LongerDelay
+  pub sixteen : Sixteen
   pub nested : Nested
   pub grows : Grows
   pub upToLast : UpToLast

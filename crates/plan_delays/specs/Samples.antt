@@ -1,12 +1,20 @@
 -- The cases of document 01 about delays, and the chip limits 16,384, 8,192, 4,096 and 2,048 with the timings of BlockHammer's Table 1,
--- at the limits of the calls with 16-bit counters.
+-- at the limits of the calls with 16-bit counters; the small card with four banks.
 use mathlib.Core.Path.{_≡_}
+use mathlib.Core.List.{[], _∷_}
+use Prim.Native.Nat.{ℕ}
+use Rattle.rules.specs.declared.Setting.{Setting}
 use Rattle.rules.specs.Answers.{aboveLimit}
+use Rattle.rules.specs.Setting.{settingOf}
 use Rattle.rules.specs.Policy.{limits01}
 use Rattle.rules.specs.Samples.{S, tableOne}
 use Rattle.plan_delays.specs.declared.Plan.the-variants.{Between, Nothing}
 use Rattle.plan_delays.specs.Delays.{delayRefusal}
 use Rattle.plan_delays.specs.Answer.{delaysOf}
+
+-- the same timings for the small card, with so many banks; its delay plays no part
+abbrev pub smallOne : ℕ → ℕ → ℕ → Setting
+smallOne n l banks = settingOf (256000000 ∷ 185 ∷ 140 ∷ n ∷ 0 ∷ l ∷ 64 ∷ banks ∷ 8 ∷ 1 ∷ [])
 
 pub record Cases : Type 0 where
   -- "W 256,000,000, tRC 185, N 4,096, tD 31,065: B = 16,384. With tD 31,064: 16,385."
@@ -24,3 +32,10 @@ pub record Cases : Type 0 where
   pub limit1788 : (delaysOf limits01 (tableOne 1 0 1788) ≡ Between 143337 143360) × (delaysOf limits01 (tableOne 1 0 1787) ≡ Nothing 4)
   -- S: "W 40, tRC 1, tFAW 4, N 2, .. L 10"
   pub s : delaysOf limits01 S ≡ Between 6 20
+  -- The small card has the delays of the large one with a history of at most 1,024 places, and 16 where these are none.
+  pub small16384 : (delaysOf limits01 (smallOne 4096 16384 4) ≡ Between 31065 35840) × (delaysOf limits01 (smallOne 8192 16384 4) ≡ Nothing 5)
+  pub small8192 : (delaysOf limits01 (smallOne 512 8192 4) ≡ Between 35688 35840) × (delaysOf limits01 (smallOne 2048 8192 4) ≡ Nothing 16)
+  -- 7,145 is the least L that it can serve
+  pub small7145 : (delaysOf limits01 (smallOne 1 7145 4) ≡ Between 35840 35840) × (delaysOf limits01 (smallOne 1 7144 4) ≡ Nothing 16)
+  -- five banks get 16 where the large card has a delay, and else what that gets
+  pub small5 : (delaysOf limits01 (smallOne 4096 16384 5) ≡ Nothing 16) × (delaysOf limits01 (smallOne 8192 16384 5) ≡ Nothing 5)

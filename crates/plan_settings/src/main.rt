@@ -1,12 +1,17 @@
-// plan_settings W TRC TFAW L [N], in whole ticks: the least and the greatest delay tD that is accepted, over thresholds N or for the
-// one given, with H, B and the bytes of the lent buffers. The table goes to standard output, an error to standard error.
+// plan_settings [--small] W TRC TFAW L [N], in whole ticks: the least and the greatest delay tD that is accepted, over thresholds N or for
+// the one given, with H, B and the bytes of the lent buffers, under the large profile or the small one. The table goes to standard
+// output, an error to standard error.
 use plan_arguments::Number;
 use plan_arguments::argument;
 use plan_arguments::faults;
+use plan_arguments::is_small;
+ghost use Prim.Native.Nat.{_≤_};
 
-// The number of argument i, which is reported where it is none.
-fn field(i: usize) -> Number {
-    let n = argument(i);
+// Number i of the five, which is reported where it is none; options is the count of words before the first.
+fn field(options: usize, i: usize) -> Number
+    requires { ⌜ (options ≤ 1) × (i ≤ 5) ⌝ }
+{
+    let n = argument(options + i);
     if !n.ok {
         faults::report_word(i);
     }
@@ -14,15 +19,18 @@ fn field(i: usize) -> Number {
 }
 
 // The threshold that is given, or 1 where none is.
-fn threshold(count: usize) -> Number {
-    if count == 6 {
-        return field(5);
+fn threshold(options: usize, is_one: bool) -> Number
+    requires { ⌜ options ≤ 1 ⌝ }
+{
+    if is_one {
+        return field(options, 5);
     }
     Number { ok: true, value: 1 }
 }
 
-// The setting is printed for 16 banks and 8 threads. Its delay and Q play no part.
-fn answer(w: u64, trc: u64, tfaw: u64, n: u64, l: u64, is_one: bool) {
+// The setting is printed for the most banks of its profile and 8 threads. Its delay and Q play no part.
+fn answer(w: u64, trc: u64, tfaw: u64, n: u64, l: u64, mark: u64, is_one: bool) {
+    let card = setting::profile(mark);
     let s = rules::Setting {
         w,
         trc,
@@ -31,8 +39,9 @@ fn answer(w: u64, trc: u64, tfaw: u64, n: u64, l: u64, is_one: bool) {
         td: 1,
         l,
         q: 1,
-        banks: 16,
+        banks: card.banks,
         threads: 8,
+        profile: mark,
     };
     if !faults::are_in_range(s) {
         return;
@@ -44,18 +53,44 @@ fn answer(w: u64, trc: u64, tfaw: u64, n: u64, l: u64, is_one: bool) {
     }
 }
 
-fn main() {
+// The table of the profile with this mark, from the words behind the options.
+fn plan(options: usize, mark: u64, is_one: bool)
+    requires { ⌜ options ≤ 1 ⌝ }
+{
+    let w = field(options, 1);
+    let trc = field(options, 2);
+    let tfaw = field(options, 3);
+    let l = field(options, 4);
+    let n = threshold(options, is_one);
+    if w.ok && trc.ok && tfaw.ok && l.ok && n.ok {
+        answer(
+            w.value,
+            trc.value,
+            tfaw.value,
+            n.value,
+            l.value,
+            mark,
+            is_one,
+        );
+    }
+}
+
+// The count of the arguments is tested; options is that of the words before the first number.
+fn start(options: usize, mark: u64)
+    requires { ⌜ options ≤ 1 ⌝ }
+{
     let count = os::arg_count();
-    if count < 5 || count > 6 {
+    if count < 5 + options || count > 6 + options {
         faults::report_count();
         return;
     }
-    let w = field(1);
-    let trc = field(2);
-    let tfaw = field(3);
-    let l = field(4);
-    let n = threshold(count);
-    if w.ok && trc.ok && tfaw.ok && l.ok && n.ok {
-        answer(w.value, trc.value, tfaw.value, n.value, l.value, count == 6);
+    plan(options, mark, count == 6 + options);
+}
+
+fn main() {
+    if is_small() {
+        start(1, 1);
+    } else {
+        start(0, 0);
     }
 }

@@ -18,23 +18,40 @@ fn print_head(s: rules::Setting) {
     print_number(s.tfaw);
     print(b", L ");
     print_number(s.l);
-    print(
-        b" (ticks; 4 ticks are a nanosecond); bytes of the four buffers for 16 banks and 8 threads\n",
-    );
+    if s.profile == 1 {
+        print(b", small profile");
+    }
+    print(b" (ticks; 4 ticks are a nanosecond); bytes of the four buffers for ");
+    print_number(s.banks);
+    print(b" banks and ");
+    print_number(s.threads);
+    print(b" threads\n");
     print(
         b"           N    least tD    nanoseconds           H           B greatest tD       bytes\n",
     );
 }
 
-fn print_history_limit() {
-    let limits = setting::narrow_limits();
-    print(b": the smallest delay with B at most L needs a history of more than ");
-    print_number(limits.history);
+fn print_places(limit: u64) {
+    print(b" needs a history of more than ");
+    print_number(limit);
     print(b" places\n");
 }
 
-// Why no delay is accepted, by the number of the refusal.
-fn print_reason(refusal: u32) {
+fn print_history_limit() {
+    let limits = setting::narrow_limits();
+    print(b": the smallest delay with B at most L");
+    print_places(limits.history);
+}
+
+// The setting has no more banks than the profile, so that only its history can be above it.
+fn print_profile_limit(mark: u64) {
+    let card = setting::profile(mark);
+    print(b": the least delay of the large profile");
+    print_places(card.history);
+}
+
+// Why no delay is accepted under the profile with this mark, by the number of the refusal.
+fn print_reason(refusal: u32, mark: u64) {
     print(b"refusal ");
     print_number(refusal as u64);
     match refusal {
@@ -42,6 +59,7 @@ fn print_reason(refusal: u32) {
         2 => print(b": W - 1 is below 2 x N x tRC, two bursts of N do not fit in the window\n"),
         3 => print(b": the smallest delay with B at most L is below tRC or above W / 2\n"),
         4 => print_history_limit(),
+        16 => print_profile_limit(mark),
         _ => print(b": B is above L with every delay from 1 to 2^29\n"),
     }
 }
@@ -64,7 +82,7 @@ fn print_line(s: rules::Setting) {
         }
         plan_delays::Plan::Nothing { refusal } => {
             print(b" has no delay: ");
-            print_reason(refusal);
+            print_reason(refusal, s.profile);
         }
     }
 }

@@ -2,4 +2,5 @@ pub mod Lists
 pub mod Differs
 pub mod Same
 pub mod Change
+pub mod Marks
 pub mod Theorems

@@ -2,6 +2,7 @@
 use Rattle.policies.specs.Claims.{Theorems}
 use Rattle.policies.proofs.Differs.{differs-at-first}
 use Rattle.policies.proofs.Change.{after-change, after-rounding, after-total, since-document01}
+use Rattle.policies.proofs.Marks.{written-before, other-mark, setting-refused}
 
 pub theorems : Theorems
 theorems =
@@ -11,4 +12,7 @@ theorems =
       afterRounding = after-rounding;
       afterTotal = after-total;
       sinceDocument01 = since-document01;
+      writtenBefore = written-before;
+      otherMark = other-mark;
+      settingRefused = setting-refused;
     }

@@ -2,9 +2,9 @@
 use mathlib.Core.Path.{_≡_}
 use mathlib.Core.Logic.{_≢_, _⊎_}
 use mathlib.Core.List.{List, [], _∷_, _++_}
-use mathlib.Core.Bool.{cond}
-use Prim.Native.Nat.{ℕ, _+_, _-_}
-use lib.Dec.{ltb}
+use mathlib.Core.Bool.{Bool, true, _&&_, cond}
+use Prim.Native.Nat.{ℕ, _+_, _-_, _/_, _≤_}
+use lib.Dec.{ltb, eqb}
 use lib.ListN.{length}
 use Rattle.rules.specs.declared.Setting.{Setting}
 use Rattle.rules.specs.declared.Limits.{Limits}
@@ -13,9 +13,13 @@ use Rattle.rules.specs.Setting.{settingRefusal}
 use Rattle.rules.specs.Quota.{quotaDown, quotaEven, inFlightHere, inFlightTotal}
 use Rattle.rules.specs.Policy.{Policy, document01, narrow}
 use Rattle.rules.specs.Calls.{Reply, refused}
+use Rattle.profiles.specs.Former.{refusal01}
 use Rattle.log_format.specs.declared.Entry.{Entry}
-use Rattle.log_format.specs.Contents.{countIn}
-use Rattle.log_format.specs.Verdict.{Ending, agrees, differs, Verdict, judged, verdict}
+use Rattle.log_format.specs.Bytes.{little, zeros, blockAt}
+use Rattle.log_format.specs.Refusals.{model, badContents, sound}
+use Rattle.log_format.specs.Contents.{countIn, markIn, settingIn}
+use Rattle.log_format.specs.Blocks.{checked, startLaidOut, blockRefusal}
+use Rattle.log_format.specs.Verdict.{Ending, agrees, differs, Verdict, refusedAfter, judged, verdict}
 use Rattle.log_format.specs.Claims.{settingOfLog, seedsOfLog, laterOf, recordsOf, rulesSay, rulesOpen, Decision, Decided, WellFormed}
 
 -- ---- where a log differs
@@ -93,6 +97,48 @@ AfterTotal = (m : Limits) (quota : Setting → ℕ → ℕ) → LogsBecome (poli
 abbrev pub SinceDocument01 : Type 0
 SinceDocument01 = LogsBecome document01 narrow
 
+-- ---- request g: logs and the profile mark
+
+-- block 0 as document 01 has it: "count 0, the nine numbers of the setting .., 64 seeds .., then zeros"
+abbrev pub startLaidOut01 : List ℕ → Bool
+startLaidOut01 s = eqb (countIn s) 0 && zeros s 172 336
+
+-- the nine numbers of its setting, of a large card
+abbrev pub settingIn01 : List ℕ → Setting
+settingIn01 s =
+    record {
+      w = little s 8 4;
+      trc = little s 12 4;
+      tfaw = little s 16 4;
+      n = little s 20 4;
+      td = little s 24 4;
+      l = little s 28 4;
+      q = little s 32 4;
+      banks = little s 36 4;
+      threads = little s 40 4;
+      profile = 0;
+    }
+
+-- Logs written before are logs of the large profile: where the mark's byte is 0, the test of block 0's layout, the setting that is read and the
+-- refusals about it are document 01's.
+pub record WrittenBefore : Type 0 where
+  pub layout : (s : List ℕ) → markIn s ≡ 0 → startLaidOut s ≡ startLaidOut01 s
+  pub setting : (s : List ℕ) → markIn s ≡ 0 → settingIn s ≡ settingIn01 s
+  pub refusals : (m : Limits) (s seeds : List ℕ) → markIn s ≡ 0 → settingRefusal m (settingIn s) seeds ≡ refusal01 m (settingIn s) seeds
+
+-- "Any other mark is .. 13 in a log": of a log whose block 0 has right sums, whatever its setting is.
+abbrev pub OtherMark : Policy → Type 0
+OtherMark p =
+    (bytes : List ℕ) → 1 ≤ length bytes / 512 → checked (blockAt bytes 0) ≡ true → 2 ≤ markIn (blockAt bytes 0)
+    → verdict p bytes ≡ refusedAfter badContents 0
+
+-- A sound block 0 whose setting is refused, with 16 too, ends the log with that refusal and no whole block before it.
+abbrev pub SettingRefused : Policy → Type 0
+SettingRefused p =
+    (bytes : List ℕ) → 1 ≤ length bytes / 512 → blockRefusal (blockAt bytes 0) 0 0 ≡ sound
+    → settingRefusal (p .limits) (settingOfLog bytes) (seedsOfLog bytes) ≢ none
+    → verdict p bytes ≡ refusedAfter (model (settingRefusal (p .limits) (settingOfLog bytes) (seedsOfLog bytes))) 0
+
 -- ---- all of it
 
 pub record Theorems : Type 0 where
@@ -101,3 +147,6 @@ pub record Theorems : Type 0 where
   pub afterRounding : AfterRounding
   pub afterTotal : AfterTotal
   pub sinceDocument01 : SinceDocument01
+  pub writtenBefore : WrittenBefore
+  pub otherMark : (p : Policy) → OtherMark p
+  pub settingRefused : (p : Policy) → SettingRefused p

@@ -17,7 +17,7 @@ pub use place::place_refusal;
 // counters, rows and thread counters it takes the lengths.
 pub fn lent_refusal(
     m: Limits,
-    setting: &[u64; 9],
+    setting: &[u64; 10],
     seeds: &[u16],
     head: &[u64; 22],
     counters: usize,
@@ -47,7 +47,7 @@ pub fn lent_refusal(
 // Refusals 1 to 9 of a call with a tick, a bank and a thread.
 pub fn call_refusal(
     m: Limits,
-    setting: &[u64; 9],
+    setting: &[u64; 10],
     seeds: &[u16],
     head: &[u64; 22],
     counters: usize,
@@ -81,7 +81,7 @@ pub fn call_refusal(
 // Refusals 1 to 10 of a done.
 pub fn done_refusal(
     m: Limits,
-    setting: &[u64; 9],
+    setting: &[u64; 10],
     seeds: &[u16],
     head: &[u64; 22],
     counters: usize,

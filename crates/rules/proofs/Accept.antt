@@ -4,14 +4,14 @@ use mathlib.Core.List.{List}
 use mathlib.Core.Bool.{Bool, true, false, not, _&&_, _||_, cond}
 use Prim.Native.Nat.{ℕ, zero, suc, _+_, _-_, _*_, _%_, _^_, _≤_, _<_}
 use native.Mathlib.Omega.{arith}
-use native.Mathlib.Nat.{lt-div-mul-add, mul-le-mul}
+use native.Mathlib.Nat.{lt-div-mul-add, mul-le-mul, mul-le-mul-left, div-lt-iff-lt-mul}
 use lib.Dec.{T, leb, ltb, eqb, leb→le, nltb→le, nleb→lt, eqb→eq}
 use lib.ListN.{length, getD}
 use Rattle.rules.specs.declared.Setting.{Setting}
 use Rattle.rules.specs.declared.Limits.{Limits}
 use Rattle.rules.specs.Cells.{ceilDiv}
-use Rattle.rules.specs.Answers.{Refusal, none, outOfRange, shortWindow, badDelay, longHistory, aboveLimit, shortBuffer, badMemory, outsideSetting, badTick, noneInFlight, refusalNumber, refuse, orElse}
-use Rattle.rules.specs.Setting.{epochLength, historyLength, rowBound, fieldsInRange, seedsInRange, settingRefusal}
+use Rattle.rules.specs.Answers.{Refusal, none, outOfRange, shortWindow, badDelay, longHistory, aboveLimit, aboveProfile, shortBuffer, badMemory, outsideSetting, badTick, noneInFlight, refusalNumber, refuse, orElse}
+use Rattle.rules.specs.Setting.{epochLength, historyLength, rowBound, known, profileOf, exceeds, fieldsInRange, seedsInRange, settingRefusal}
 use Rattle.rules.specs.State.{State, countersUsed, threadsUsed, threadCell, tooShort}
 use Rattle.rules.specs.History.{memoryOk}
 use Rattle.rules.specs.Tested.{Ranges, Accepted, Long, SetUp, Taken}
@@ -28,6 +28,7 @@ number-none shortWindow e = absurd (omega arith)
 number-none badDelay e = absurd (omega arith)
 number-none longHistory e = absurd (omega arith)
 number-none aboveLimit e = absurd (omega arith)
+number-none aboveProfile e = absurd (omega arith)
 number-none shortBuffer e = absurd (omega arith)
 number-none badMemory e = absurd (omega arith)
 number-none outsideSetting e = absurd (omega arith)
@@ -78,6 +79,7 @@ ranges m s ok =
       banks-high = leb→le (s .banks) 16 (search (and-l, and-r) depth 20);
       threads-low = leb→le 1 (s .threads) (search (and-l, and-r) depth 20);
       threads-high = leb→le (s .threads) 32 (search (and-l, and-r) depth 20);
+      mark = search (and-l, and-r) depth 20;
     }
 
 pub accepted : (m : Limits) (s : Setting) (seeds : List ℕ) → settingRefusal m s seeds ≡ none → Accepted m s seeds
@@ -87,8 +89,11 @@ accepted m s seeds e =
     let r2 = refuse-none (ltb (s .w - 1) (2 * s .n * s .trc)) shortWindow _ (omega arith) (r1 .1) in
     let r3 = refuse-none (ltb (s .td) (s .trc) || ltb (epochLength s) (s .td)) badDelay _ (omega arith) (r2 .1) in
     let r4 = refuse-none (ltb (m .history) (historyLength s)) longHistory _ (omega arith) (r3 .1) in
-    let r5 = refuse-none (ltb (s .l) (rowBound s)) aboveLimit none (omega arith) (r4 .1) in
+    let r5 = refuse-none (ltb (s .l) (rowBound s)) aboveLimit _ (omega arith) (r4 .1) in
+    let own = profileOf (s .profile) in
+    let r16 = refuse-none (exceeds own (s .banks) (historyLength s)) aboveProfile none (omega arith) (r5 .1) in
     let n3 = not-or (ltb (s .td) (s .trc)) (ltb (epochLength s) (s .td)) (r3 .0) in
+    let n16 = not-or (ltb (own .banks) (s .banks)) (ltb (own .history) (historyLength s)) (r16 .0) in
     let ok : T (fieldsInRange m s && seedsInRange seeds) = not-not (fieldsInRange m s && seedsInRange seeds) (r1 .0) in
     record {
       ranges = ranges m s (and-l (fieldsInRange m s) (seedsInRange seeds) ok);
@@ -98,6 +103,8 @@ accepted m s seeds e =
       delay = nltb→le (epochLength s) (s .td) (n3 .1);
       short = nltb→le (m .history) (historyLength s) (r4 .0);
       bound = nltb→le (s .l) (rowBound s) (r5 .0);
+      banks-own = nltb→le (own .banks) (s .banks) (n16 .0);
+      history-own = nltb→le (own .history) (historyLength s) (n16 .1);
     }
 
 -- the index has a full scale of 1 or more
@@ -107,6 +114,12 @@ scale-pos ok = omega (arith, ok .bound)
 
 pub ceil-cover : (a b : ℕ) → 1 ≤ b → a ≤ ceilDiv a b * b
 ceil-cover a b h = omega (arith, lt-div-mul-add {a = a + (b - 1)} {b = b} h)
+
+pub ceil-le : (a b : ℕ) → 1 ≤ b → ceilDiv a b ≤ a
+ceil-le a b h =
+    let m : a * 1 ≤ a * b = mul-le-mul-left a h in
+    let l : ceilDiv a b < suc a = div-lt-iff-lt-mul {k = b} {x = a + (b - 1)} {y = suc a} h .1 (omega arith) in
+    omega arith
 
 left-pos : (c g : ℕ) → 1 ≤ c * g → 1 ≤ c
 left-pos zero g h = absurd (omega arith)

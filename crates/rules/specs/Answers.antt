@@ -32,7 +32,7 @@ answerLeft Quota = 0
 
 -- "Refusals, by who can cause them"; none stands for a call that is answered.
 pub data Refusal : Type 0 where
-  none outOfRange shortWindow badDelay longHistory aboveLimit shortBuffer badMemory outsideSetting badTick noneInFlight : Refusal
+  none outOfRange shortWindow badDelay longHistory aboveLimit aboveProfile shortBuffer badMemory outsideSetting badTick noneInFlight : Refusal
 
 abbrev pub refusalNumber : Refusal → ℕ
 refusalNumber none = 0
@@ -46,6 +46,8 @@ refusalNumber badDelay = 3
 refusalNumber longHistory = 4
 -- "5 B > L."
 refusalNumber aboveLimit = 5
+-- "16 a setting above the small profile, after 5." (document 02, g)
+refusalNumber aboveProfile = 16
 -- "6 a buffer too short."
 refusalNumber shortBuffer = 6
 -- "7 a history place of H or more, a kept tick after the last tick, or stored history ticks that rise"

@@ -17,11 +17,11 @@ house = houseFrom 0 0 16 ++ (houseFrom 1 0 16 ++ (houseFrom 2 0 16 ++ houseFrom 
 
 -- "Setting S: W 40, tRC 1, tFAW 4, N 2, tD 6, L 10, Q 4, 1 bank, 1 thread.", with any L and Q
 abbrev pub settingS : ℕ → ℕ → Setting
-settingS l q = settingOf (40 ∷ 1 ∷ 4 ∷ 2 ∷ 6 ∷ l ∷ q ∷ 1 ∷ 1 ∷ [])
+settingS l q = settingOf (40 ∷ 1 ∷ 4 ∷ 2 ∷ 6 ∷ l ∷ q ∷ 1 ∷ 1 ∷ 0 ∷ [])
 
 abbrev pub S : Setting
 S = settingS 10 4
 
 -- BlockHammer's Table 1: 64 ms, 46.25 ns and 35 ns in quarter nanoseconds; 16 banks, 8 threads; Q is ours
 abbrev pub tableOne : ℕ → ℕ → ℕ → Setting
-tableOne n td l = settingOf (256000000 ∷ 185 ∷ 140 ∷ n ∷ td ∷ l ∷ 64 ∷ 16 ∷ 8 ∷ [])
+tableOne n td l = settingOf (256000000 ∷ 185 ∷ 140 ∷ n ∷ td ∷ l ∷ 64 ∷ 16 ∷ 8 ∷ 0 ∷ [])

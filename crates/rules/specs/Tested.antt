@@ -7,7 +7,7 @@ use lib.ListN.{length, getD}
 use Rattle.head.specs.declared.Head.{Head}
 use Rattle.rules.specs.declared.Setting.{Setting}
 use Rattle.rules.specs.declared.Limits.{Limits}
-use Rattle.rules.specs.Setting.{epochLength, historyLength, rowBound, seedsInRange}
+use Rattle.rules.specs.Setting.{epochLength, historyLength, rowBound, known, profileOf, seedsInRange}
 use Rattle.rules.specs.State.{State, countersUsed, threadsUsed}
 use Rattle.rules.specs.History.{neverRises, memoryOk}
 
@@ -34,6 +34,7 @@ pub record Ranges (m : Limits) (s : Setting) : Type 0 where
   pub banks-high : s .banks ≤ 16
   pub threads-low : 1 ≤ s .threads
   pub threads-high : s .threads ≤ 32
+  pub mark : T (known (s .profile))
 
 -- "An accepted setting is one that meets none of the refusals about the setting"
 pub record Accepted (m : Limits) (s : Setting) (seeds : List ℕ) : Type 0 where
@@ -44,6 +45,8 @@ pub record Accepted (m : Limits) (s : Setting) (seeds : List ℕ) : Type 0 where
   pub delay : s .td ≤ epochLength s
   pub short : historyLength s ≤ m .history
   pub bound : rowBound s ≤ s .l
+  pub banks-own : s .banks ≤ profileOf (s .profile) .banks
+  pub history-own : historyLength s ≤ profileOf (s .profile) .history
 
 -- ---- the memory
 

@@ -1,7 +1,7 @@
 // The types that the rules of document 01 speak of, as plain structs and enums by value; the head is in a crate of its own, with its methods.
 // The rules themselves are definitions in specs/, the theorems about them are in proofs/.
 
-// The nine numbers of the setting, named as in document 01. The 64 seeds are a buffer beside it.
+// The ten numbers of the setting: nine named as in document 01, and the profile mark of document 02, g. The 64 seeds are a buffer beside it.
 pub struct Setting {
     // W, the refresh window in ticks.
     pub w: u64,
@@ -19,11 +19,19 @@ pub struct Setting {
     pub q: u64,
     pub banks: u64,
     pub threads: u64,
+    // The mark of the card's profile.
+    pub profile: u64,
 }
 
 // The limits of the setting that differ from width to width: the greatest N and the greatest H.
 pub struct Limits {
     pub threshold: u64,
+    pub history: u64,
+}
+
+// The limits of a profile of cards: the most banks and the greatest H.
+pub struct Profile {
+    pub banks: u64,
     pub history: u64,
 }
 

@@ -1,6 +1,7 @@
-// The setting: refusals 1 to 5 in their order. The tests stand in `setting_ranges` and `setting_bounds`; the nine words, the limits and the
+// The setting: refusals 1 to 5 and 16 in their order. The tests stand in `setting_ranges` and `setting_bounds`; the ten words, the limits and the
 // length of the history buffer are exported again. The definitions that the contracts cite are those of the crate `rules`.
 use setting_bounds::above_limit;
+use setting_bounds::above_profile;
 use setting_bounds::bad_delay;
 use setting_bounds::short_window;
 use setting_ranges::and;
@@ -13,8 +14,9 @@ ghost use Rattle.rules.specs.Setting.{settingRefusal};
 pub use setting_bounds::history_length;
 pub use setting_words::load;
 pub use setting_words::narrow_limits;
+pub use setting_words::profile;
 
-// The number of the first of refusals 1 to 5 that the setting meets, or 0, with these limits.
+// The number of the first of refusals 1 to 5 and 16 that the setting meets, or 0, with these limits.
 pub fn refusal(m: rules::Limits, s: rules::Setting, seeds: &[u16]) -> u32
     requires { ⌜ m .threshold ≤ 2 ^ 20 ⌝ }
     ensures { λ r. ⌜ r ≡ refusalNumber (settingRefusal m s (now (seeds .entry))) ⌝ }
@@ -34,8 +36,13 @@ pub fn refusal(m: rules::Limits, s: rules::Setting, seeds: &[u16]) -> u32
     if m.history < length {
         return 4;
     }
-    if above_limit(s) {
+    let limit = above_limit(s);
+    let card = above_profile(profile(s.profile), s.banks, length);
+    if limit {
         return 5;
+    }
+    if card {
+        return 16;
     }
     0
 }

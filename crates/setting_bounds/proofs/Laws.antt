@@ -1,27 +1,20 @@
--- Laws over plain numbers: the size of products and quotients, and the row bound without a division.
+-- Laws over plain numbers: the size of products, and the row bound without a division.
 use mathlib.Core.Path.{_≡_}
 use mathlib.Core.Bool.{true}
-use Prim.Native.Nat.{ℕ, suc, _+_, _-_, _*_, _/_, _^_, _≤_, _<_}
+use Prim.Native.Nat.{ℕ, _+_, _-_, _*_, _/_, _^_, _≤_, _<_}
 use native.Mathlib.Omega.{arith}
-use native.Mathlib.Nat.{mul-le-mul, mul-le-mul-left, div-lt-iff-lt-mul, le-div-iff-mul-le}
+use native.Mathlib.Nat.{mul-le-mul, le-div-iff-mul-le}
 use lib.Dec.{leb, ltb, leb→le, le→leb, ltb→lt, lt→ltb}
 use borrow.Author.Tests.{lt-ltb}
 use Rattle.rules.specs.declared.Setting.{Setting}
-use Rattle.rules.specs.Cells.{ceilDiv}
 use Rattle.rules.specs.Setting.{rowBound}
 use Rattle.rules.proofs.Tests.{same-test}
 
--- ---- products and quotients
+-- ---- products
 
 -- the product of refusal 2 is small
 pub gaps-small : (n trc : ℕ) → n ≤ 2 ^ 20 → trc ≤ 65535 → 2 * n * trc ≤ 2097152 * 65535
 gaps-small n trc hn ht = mul-le-mul {n₂ = 2097152} {m₂ = 65535} (omega arith) ht
-
-pub ceil-le : (a b : ℕ) → 1 ≤ b → ceilDiv a b ≤ a
-ceil-le a b h =
-    let m : a * 1 ≤ a * b = mul-le-mul-left a h in
-    let l : ceilDiv a b < suc a = div-lt-iff-lt-mul {k = b} {x = a + (b - 1)} {y = suc a} h .1 (omega arith) in
-    omega arith
 
 -- ---- the row bound without a division
 

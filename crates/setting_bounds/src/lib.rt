@@ -1,10 +1,10 @@
-// Refusals 2, 3 and 5 as tests of a setting whose fields are in range, and H, the length of the history buffer, which refusal 4 tests.
+// Refusals 2, 3, 5 and 16 as tests of a setting whose fields are in range, and H, the length of the history buffer, which refusals 4 and 16 test.
 ghost use mathlib.Core.Path.{_≡_};
 ghost use mathlib.Core.Bool.{_||_};
 ghost use Prim.Native.Nat.{_-_, _*_, _^_, _≤_};
 ghost use lib.Dec.{ltb};
 ghost use Rattle.rules.specs.Cells.{ceilDiv};
-ghost use Rattle.rules.specs.Setting.{epochLength, historyLength, rowBound};
+ghost use Rattle.rules.specs.Setting.{epochLength, historyLength, rowBound, exceeds};
 
 // Refusal 2: the window is too short for the free activations of two bursts.
 pub fn short_window(s: rules::Setting) -> bool
@@ -49,4 +49,15 @@ pub fn above_limit(s: rules::Setting) -> bool
         return true;
     }
     (s.l - free) * s.td <= rest
+}
+
+// Refusal 16: so many banks, or so long a history, are above the profile.
+pub fn above_profile(p: rules::Profile, banks: u64, history: u64) -> bool
+    ensures { λ r. ⌜ r ≡ exceeds p banks history ⌝ }
+{
+    if p.banks < banks {
+        true
+    } else {
+        p.history < history
+    }
 }

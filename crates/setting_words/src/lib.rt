@@ -1,10 +1,10 @@
-// What a setting is to the calls: the struct that its nine words hold, and the limits that it is tested with.
+// What a setting is to the calls: the struct that its ten words hold, and the limits that it is tested with.
 ghost use mathlib.Core.Path.{_≡_};
-ghost use Rattle.rules.specs.Setting.{settingOf};
+ghost use Rattle.rules.specs.Setting.{settingOf, profileOf};
 ghost use Rattle.rules.specs.Policy.{limits01};
 
-// The setting that the nine words hold, in the order of document 01's table.
-pub fn load(words: &[u64; 9]) -> rules::Setting
+// The setting that the ten words hold: nine in the order of document 01's table, and the profile mark.
+pub fn load(words: &[u64; 10]) -> rules::Setting
     ensures { λ r. ⌜ r ≡ settingOf (now (words .entry)) ⌝ }
 {
     rules::Setting {
@@ -17,6 +17,7 @@ pub fn load(words: &[u64; 9]) -> rules::Setting
         q: words[6],
         banks: words[7],
         threads: words[8],
+        profile: words[9],
     }
 }
 
@@ -27,5 +28,21 @@ pub fn narrow_limits() -> rules::Limits
     rules::Limits {
         threshold: 32768,
         history: 4096,
+    }
+}
+
+// The limits of the profile with this mark: 1 is the small card, any other the large one. They stand here and nowhere else in the code.
+pub fn profile(mark: u64) -> rules::Profile
+    ensures { λ r. ⌜ r ≡ profileOf mark ⌝ }
+{
+    if mark == 1 {
+        return rules::Profile {
+            banks: 4,
+            history: 1024,
+        };
+    }
+    rules::Profile {
+        banks: 16,
+        history: 2147483648,
     }
 }

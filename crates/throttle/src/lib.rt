@@ -27,7 +27,7 @@ pub use sound::setup;
 // It rules out: a set-up that refuses an accepted setting, clears half of the counters, or leaves stored ticks in the head.
 #[no_mangle]
 pub extern "C" fn throttle_setup(
-    setting: &[u64; 9],
+    setting: &[u64; 10],
     seeds: &[u16],
     head: &mut [u64; 22],
     counters: &mut [u16],
@@ -61,7 +61,7 @@ pub extern "C" fn throttle_setup(
 // opening or of the other filter, caps them, or tells some with a wait.
 #[no_mangle]
 pub extern "C" fn throttle_request(
-    setting: &[u64; 9],
+    setting: &[u64; 10],
     seeds: &[u16],
     head: &mut [u64; 22],
     counters: &mut [u16],
@@ -119,7 +119,7 @@ pub extern "C" fn throttle_request(
 // It rules out: a done that lowers an index counter, moves the clock when refused, or keeps the clock when not.
 #[no_mangle]
 pub extern "C" fn throttle_done(
-    setting: &[u64; 9],
+    setting: &[u64; 10],
     seeds: &[u16],
     head: &mut [u64; 22],
     counters: &mut [u16],
@@ -161,7 +161,7 @@ pub extern "C" fn throttle_done(
 // It rules out: an invented index, and one that is filter 0's in every epoch.
 #[no_mangle]
 pub extern "C" fn throttle_index(
-    setting: &[u64; 9],
+    setting: &[u64; 10],
     seeds: &[u16],
     head: &mut [u64; 22],
     counters: &mut [u16],

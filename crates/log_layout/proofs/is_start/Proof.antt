@@ -7,21 +7,32 @@ use Rattle.log_layout.proofs.is_start.Tie as tie
 byte-requires : tie.Need-byte-requires
 byte-requires c κs = search needs
 
-are-zero-requires : tie.Need-are-zero-requires
-are-zero-requires c κs = search needs
+byte-requires-2 : tie.Need-byte-requires-2
+byte-requires-2 c κs = search needs
 
 and-requires : tie.Need-and-requires
 and-requires c κs = search needs
 
+are-zero-requires : tie.Need-are-zero-requires
+are-zero-requires c κs = search needs
+
+and-requires-2 : tie.Need-and-requires-2
+and-requires-2 c κs = search needs
+
 returns : tie.Need-returns
 unfolding startLaidOut
-returns c = simp (c .and .ensures, c .before .are-zero .ensures, c .before .before .byte .ensures .0)
+returns c =
+    let counted = c .before .before in
+    let marked = counted .before in
+    simp (c .and2 .ensures, c .before .are-zero .ensures, counted .and .ensures, marked .byte2 .ensures .0, marked .before .byte .ensures .0)
 
 pub is-start-spec : {M : Type 1} → statement M
 is-start-spec =
     tie.close
     (tie.spec
     byte-requires
-    are-zero-requires
+    byte-requires-2
     and-requires
+    are-zero-requires
+    and-requires-2
     returns)

@@ -48,11 +48,16 @@ greater-requires c κs = search needs
 greatest-delay-requires : tie.Need-greatest-delay-requires
 greatest-delay-requires c κs = search needs
 
+delays-within-requires : tie.Need-delays-within-requires
+delays-within-requires c κs =
+    let k = c .before in
+    (search needs, least k, k .greatest-delay .ensures)
+
 returns : tie.Need-returns
 unfolding delaysAbove
 returns c =
-    let k = c .before in
-    simp (← least k, ← k .greatest-delay .ensures, le-leb _ _ (c .if1 .taken))
+    let k = c .before .before in
+    simp (← least k, ← k .greatest-delay .ensures, le-leb _ _ (c .before .if1 .taken), c .delays-within .ensures)
 
 returns-2 : tie.Need-returns-2
 returns-2 c = simp (apart (c .before), lt-ltb _ _ (c .if2 .taken))
@@ -72,6 +77,7 @@ delays-above-spec =
     smallest-delay-requires
     greater-requires
     greatest-delay-requires
+    delays-within-requires
     returns
     returns-2
     delay-refusal-requires

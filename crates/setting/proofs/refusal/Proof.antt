@@ -8,8 +8,8 @@ use lib.Dec.{ltb}
 use borrow.Author.Tests.{lt-ltb, le-ltb, ltb-false, not-true, not-false}
 use Rattle.rules.specs.declared.Setting.{Setting}
 use Rattle.rules.specs.declared.Limits.{Limits}
-use Rattle.rules.specs.Answers.{none, longHistory, aboveLimit, refuse}
-use Rattle.rules.specs.Setting.{historyLength, rowBound, settingRefusal}
+use Rattle.rules.specs.Answers.{Refusal, none, longHistory, aboveLimit, aboveProfile, refuse}
+use Rattle.rules.specs.Setting.{historyLength, rowBound, profileOf, exceeds, settingRefusal}
 use Rattle.rules.specs.Tested.{Ranges}
 use Rattle.setting.proofs.Ranges.{inRange, in-ranges}
 use borrow.Author.Needs.{needs}
@@ -46,9 +46,13 @@ ok c = in-ranges (m c) (s c) (seeds c) (inside c)
 window : (c : tie.After-history-length) → let x = s (first c) in 2 * x .n * x .trc ≤ x .w - 1
 window c = ltb-false _ _ (sym (c .before .before .before .before .short-window .ensures) ∙ c .before .before .if2 .left)
 
+-- 16, for the profile that the mark names
+abbrev own : Setting → Refusal
+own x = refuse (exceeds (profileOf (x .profile)) (x .banks) (historyLength x)) aboveProfile none
+
 left : (c : tie.After-history-length) → let x = s (first c) in
     settingRefusal (m (first c)) x (seeds (first c))
-    ≡ refuse (ltb (m (first c) .history) (historyLength x)) longHistory (refuse (ltb (x .l) (rowBound x)) aboveLimit none)
+    ≡ refuse (ltb (m (first c) .history) (historyLength x)) longHistory (refuse (ltb (x .l) (rowBound x)) aboveLimit (own x))
 unfolding settingRefusal
 left c = simp (inside (first c), ← c .before .before .before .before .short-window .ensures, c .before .before .if2 .left, ← c .before .before .before .bad-delay .ensures, c .before .if3 .left)
 
@@ -92,15 +96,32 @@ above-limit-requires c κs =
     let k = ok (c .before .before .before .before .before .before .before) in
     (k .td-low, k .td-high, omega arith, omega arith, k .l-high, window (c .before .before), k .w-high)
 
+profile-requires : tie.Need-profile-requires
+profile-requires c κs = search needs
+
+above-profile-requires : tie.Need-above-profile-requires
+above-profile-requires c κs = search needs
+
+-- H is known, and it is within the limits
+abbrev measured : tie.After-above-profile → tie.After-history-length
+measured c = c .before .before .before .before .before
+
+-- the tests of 5 and 16, as the code has computed them
+last : (c : tie.After-above-profile) → let at = measured c in let x = s (first at) in
+    settingRefusal (m (first at)) x (seeds (first at))
+    ≡ refuse (c .before .before .above-limit .result) aboveLimit (refuse (c .above-profile .result) aboveProfile none)
+last c =
+    let at = measured c in
+    simp (left at, ← at .history-length .ensures, le-ltb _ _ (c .before .before .before .if4 .left), ← c .before .before .above-limit .ensures, ← c .before .profile .ensures, ← c .above-profile .ensures)
+
 returns-5 : tie.Need-returns-5
-returns-5 c =
-    let at-history-length = c .before .before .before .before in
-    simp (left at-history-length, ← at-history-length .history-length .ensures, le-ltb _ _ (c .before .before .if4 .left), ← c .before .above-limit .ensures, c .if5 .taken)
+returns-5 c = simp (last (c .before), c .if5 .taken)
 
 returns-6 : tie.Need-returns-6
-returns-6 c =
-    let at-history-length = c .before .before .before .before in
-    simp (left at-history-length, ← at-history-length .history-length .ensures, le-ltb _ _ (c .before .before .if4 .left), ← c .before .above-limit .ensures, c .if5 .left)
+returns-6 c = simp (last (c .before .before), c .before .if5 .left, c .if6 .taken)
+
+returns-7 : tie.Need-returns-7
+returns-7 c = simp (last (c .before .before), c .before .if5 .left, c .if6 .left)
 
 pub refusal-spec : {M : Type 1} → statement M
 refusal-spec =
@@ -117,5 +138,8 @@ refusal-spec =
     history-length-requires
     returns-4
     above-limit-requires
+    profile-requires
+    above-profile-requires
     returns-5
-    returns-6)
+    returns-6
+    returns-7)

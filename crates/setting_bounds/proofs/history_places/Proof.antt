@@ -1,7 +1,7 @@
 -- `setting::history_places`: the quotient is not above the delay, so four times it fits.
 use mathlib.Core.Path.{refl}
 use native.Mathlib.Omega.{arith}
-use Rattle.setting_bounds.proofs.Laws.{ceil-le}
+use Rattle.rules.proofs.Accept.{ceil-le}
 use borrow.Author.Needs.{needs}
 use Rattle.setting_bounds.proofs.history_places.Statement.{statement}
 use Rattle.setting_bounds.proofs.history_places.Tie as tie

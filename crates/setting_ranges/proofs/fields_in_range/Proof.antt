@@ -34,9 +34,34 @@ and-within-requires-7 c κs = search needs
 and-within-requires-8 : tie.Need-and-within-requires-8
 and-within-requires-8 c κs = search needs
 
+and-requires-2 : tie.Need-and-requires-2
+and-requires-2 c κs = search needs
+
 returns : tie.Need-returns
 unfolding fieldsInRange
-returns c = simp (c .and-within8 .ensures, c .before .and-within7 .ensures, c .before .before .and-within6 .ensures, c .before .before .before .and-within5 .ensures, c .before .before .before .before .and-within4 .ensures, c .before .before .before .before .before .and-within3 .ensures, c .before .before .before .before .before .before .and-within2 .ensures, c .before .before .before .before .before .before .before .and-within .ensures, c .before .before .before .before .before .before .before .before .and .ensures, c .before .before .before .before .before .before .before .before .before .before .within .ensures)
+returns c =
+    let k8 = c .before .before in
+    let k7 = k8 .before in
+    let k6 = k7 .before in
+    let k5 = k6 .before in
+    let k4 = k5 .before in
+    let k3 = k4 .before in
+    let k2 = k3 .before in
+    let k1 = k2 .before in
+    let w = k1 .before in
+    simp (
+      c .and2 .ensures,
+      k8 .and-within8 .ensures,
+      k7 .and-within7 .ensures,
+      k6 .and-within6 .ensures,
+      k5 .and-within5 .ensures,
+      k4 .and-within4 .ensures,
+      k3 .and-within3 .ensures,
+      k2 .and-within2 .ensures,
+      k1 .and-within .ensures,
+      w .and .ensures,
+      w .before .before .within .ensures,
+    )
 
 pub fields-in-range-spec : {M : Type 1} → statement M
 fields-in-range-spec =
@@ -52,4 +77,5 @@ fields-in-range-spec =
     and-within-requires-6
     and-within-requires-7
     and-within-requires-8
+    and-requires-2
     returns)

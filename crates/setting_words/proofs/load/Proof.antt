@@ -1,4 +1,4 @@
--- `setting::load`: the nine words are the fields, in order.
+-- `setting::load`: the ten words are the fields, in order.
 use mathlib.Core.Path.{refl}
 use Rattle.rules.specs.Setting.{settingOf}
 use borrow.Author.Needs.{needs}
@@ -32,6 +32,9 @@ element-copy-out-t25 c = search needs
 element-copy-out-t28 : tie.Need-element-copy-out-t28
 element-copy-out-t28 c = search needs
 
+element-copy-out-t31 : tie.Need-element-copy-out-t31
+element-copy-out-t31 c = search needs
+
 returns : tie.Need-returns
 unfolding settingOf
 returns c = refl
@@ -49,4 +52,5 @@ load-spec =
     element-copy-out-t22
     element-copy-out-t25
     element-copy-out-t28
+    element-copy-out-t31
     returns)

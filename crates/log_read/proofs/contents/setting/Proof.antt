@@ -1,4 +1,4 @@
--- `contents::setting`: the nine numbers are the fields, in order.
+-- `contents::setting`: the nine numbers and the mark are the fields, in order.
 use Rattle.log_format.specs.Contents.{settingIn}
 use borrow.Author.Needs.{needs}
 use Rattle.log_read.proofs.contents.setting.Statement.{statement}
@@ -31,9 +31,33 @@ word32-requires-8 c κs = search needs
 word32-requires-9 : tie.Need-word32-requires-9
 word32-requires-9 c κs = search needs
 
+byte-requires : tie.Need-byte-requires
+byte-requires c κs = search needs
+
 returns : tie.Need-returns
 unfolding settingIn
-returns c = simp (c .before .before .before .before .before .before .before .before .word32 .ensures .0, c .before .before .before .before .before .before .before .word322 .ensures .0, c .before .before .before .before .before .before .word323 .ensures .0, c .before .before .before .before .before .word324 .ensures .0, c .before .before .before .before .word325 .ensures .0, c .before .before .before .word326 .ensures .0, c .before .before .word327 .ensures .0, c .before .word328 .ensures .0, c .word329 .ensures .0)
+returns c =
+    let k9 = c .before in
+    let k8 = k9 .before in
+    let k7 = k8 .before in
+    let k6 = k7 .before in
+    let k5 = k6 .before in
+    let k4 = k5 .before in
+    let k3 = k4 .before in
+    let k2 = k3 .before in
+    let k1 = k2 .before in
+    simp (
+      k1 .word32 .ensures .0,
+      k2 .word322 .ensures .0,
+      k3 .word323 .ensures .0,
+      k4 .word324 .ensures .0,
+      k5 .word325 .ensures .0,
+      k6 .word326 .ensures .0,
+      k7 .word327 .ensures .0,
+      k8 .word328 .ensures .0,
+      k9 .word329 .ensures .0,
+      c .byte .ensures .0,
+    )
 
 pub setting-spec : {M : Type 1} → statement M
 setting-spec =
@@ -48,4 +72,5 @@ setting-spec =
     word32-requires-7
     word32-requires-8
     word32-requires-9
+    byte-requires
     returns)
