@@ -81,8 +81,8 @@ static void add_to_sum(uint8_t *sum, uint32_t more)
 }
 
 /*
- * Block 0 under each mark, of which the large one's is the sample's; the small
- * one's has byte 172 more, and sums that are larger by that. Any other mark is
+ * Block 0 under each mark: the sample's under the large profile, and the same
+ * with 1 in byte 172 and the sums of that under the small one. Any other mark is
  * refused and leaves the block.
  */
 static void check_log(const uint8_t sample[THROTTLE_LOG_BLOCK])

@@ -57,6 +57,8 @@ static void sizes(void)
     CHECK(throttle_history_cells(&S) == 8);
     CHECK(throttle_words(&TEN, words) == words);
     CHECK(memcmp(words, &TEN, sizeof words) == 0);
+    const struct throttle_setting unnamed = {.w = 40, .threads = 1};
+    CHECK(throttle_words(&unnamed, words)[8] == 1 && words[9] == THROTTLE_PROFILE_LARGE);
     struct throttle_setting none = {0};
     CHECK(throttle_counter_cells(&none) == 0);
     CHECK(throttle_history_cells(&none) == 0);

@@ -186,8 +186,8 @@ static void bounds(void)
     static const uint64_t high[THROTTLE_SETTING_WORDS] = {1u << 30, 65535, 65535, 32768, 0, 1u << 24, 255, 16, 32, 1};
     for (int i = 0; i < THROTTLE_SETTING_WORDS; i++) {
         if (i == 4) continue;
-        const uint64_t wrong[] = {low[i] - 1, high[i] + 1, high[i] + 2, UINT64_MAX};
-        for (int k = 0; k < 4; k++) {
+        const uint64_t wrong[] = {low[i] - 1, high[i] + 1, high[i] + 2, low[i] + (UINT64_C(1) << 32), UINT64_MAX};
+        for (size_t k = 0; k < sizeof wrong / sizeof *wrong; k++) {
             uint64_t words[THROTTLE_SETTING_WORDS] = {2000, 1, 4, 2, 0, 16, 4, 4, 8, 0};
             uint64_t out[THROTTLE_DELAYS_OUT] = {111, 222};
             words[i] = wrong[k];
