@@ -41,7 +41,7 @@ static int fields_in_range(const uint64_t s[THROTTLE_SETTING_WORDS])
     return within(s[0], 2, 1u << 30) && s[0] % 2 == 0 && within(s[1], 1, 65535) &&
            within(s[2], 1, 65535) && within(s[3], 1, 32768) && within(s[4], 1, 1u << 29) &&
            within(s[5], 1, 1u << 24) && within(s[6], 1, 255) && within(s[7], 1, 16) &&
-           within(s[8], 1, 32);
+           within(s[8], 1, 32) && s[9] <= THROTTLE_PROFILE_SMALL;
 }
 
 /* 1,023 is ten bits, so no seed is above it where their union is not. */
@@ -55,7 +55,14 @@ static int seeds_in_range(const uint16_t *seeds, size_t len)
     return all <= 1023;
 }
 
-/* Refusals 1 to 5; r is filled in where there is none. Numbers in range fit 32 bits. */
+/* The setting has the small profile and is above it. */
+static int above_profile(const uint64_t s[THROTTLE_SETTING_WORDS], uint32_t history)
+{
+    return s[9] == THROTTLE_PROFILE_SMALL &&
+           (s[7] > THROTTLE_SMALL_BANKS || history > THROTTLE_SMALL_HISTORY_CELLS);
+}
+
+/* Refusals 1 to 5 and 16; r is filled in where there is none. Numbers in range fit 32 bits. */
 static uint32_t setting_refusal(const uint64_t s[THROTTLE_SETTING_WORDS], const uint16_t *seeds,
                                 size_t seeds_len, struct rules *r)
 {
@@ -73,6 +80,8 @@ static uint32_t setting_refusal(const uint64_t s[THROTTLE_SETTING_WORDS], const 
         return 4;
     if (2 * n + 1 + (w - 1 - burst) / td > l)
         return 5;
+    if (above_profile(s, history))
+        return 16;
     r->epoch = w / 2;
     r->trc = trc;
     r->tfaw = tfaw;
@@ -121,7 +130,7 @@ static int memory_unsound(const struct rules *r, const uint64_t head[THROTTLE_HE
     return history_unsound(ticks, r->history, head[1], last);
 }
 
-/* Refusals 1 to 9 of a call with a tick, a bank and a thread. */
+/* Refusals 1 to 9 and 16 of a call with a tick, a bank and a thread. */
 static uint32_t call_refusal(BASE_STATE, uint64_t tick, uint64_t bank, uint64_t thread,
                              struct rules *r)
 {

@@ -19,8 +19,9 @@ enum {
     MODULUS = 65521,
     RECORD = 24,
     RECORDS = 20,
-    SEEDS_AT = BODY + THROTTLE_SETTING_WORDS * 4,
-    START_END = SEEDS_AT + THROTTLE_SEEDS * 2,
+    NUMBERS = 9, /* words of the setting that block 0 has in 32 bits: all but the profile mark */
+    SEEDS_AT = BODY + NUMBERS * 4,
+    MARK_AT = SEEDS_AT + THROTTLE_SEEDS * 2,
     LOGGED = 2 /* words of out that a log has: answer and wait tick */
 };
 
@@ -116,7 +117,7 @@ static uint32_t block_refusal(const uint8_t block[BLOCK], const struct progress 
     if (load32(block) != p->blocks || block[5] != 0 || load16(block + 6) != 0)
         return 13;
     if (p->blocks == 0)
-        return block[4] == 0 && zeros_from(block, START_END) ? 0 : 13;
+        return block[4] == 0 && block[MARK_AT] <= 1 && zeros_from(block, MARK_AT + 1) ? 0 : 13;
     if (p->blocks > 1 && p->before < RECORDS)
         return 13;
     return records_laid_out(block) ? 0 : 13;
@@ -126,8 +127,9 @@ static uint32_t block_refusal(const uint8_t block[BLOCK], const struct progress 
 static uint32_t start(const uint8_t block[BLOCK])
 {
     uint64_t setting[THROTTLE_SETTING_WORDS];
-    for (size_t k = 0; k < THROTTLE_SETTING_WORDS; k++)
+    for (size_t k = 0; k < NUMBERS; k++)
         setting[k] = load32(block + BODY + 4 * k);
+    setting[NUMBERS] = block[MARK_AT];
     for (size_t k = 0; k < THROTTLE_SEEDS; k++)
         seeds[k] = load16(block + SEEDS_AT + 2 * k);
     return setting_refusal(setting, seeds, THROTTLE_SEEDS, &rules);

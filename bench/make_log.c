@@ -19,6 +19,8 @@
 BASE_DECLARE(base);
 
 enum { BLOCK = 512, BODY = 8, SUMS = 508, MODULUS = 65521, RECORD = 24, RECORDS = 20 };
+/* Block 0 has so many words of the setting in 32 bits; the last, the profile mark, is a byte. */
+enum { NUMBERS = 9 };
 enum { THREADS = 8, SERVICE = 200, POLL = 1000, FLIGHTS = 1024, ANSWERS = 5 };
 enum { REQUEST, DONE };
 
@@ -218,10 +220,12 @@ static void write_block(uint8_t block[BLOCK], uint64_t number, size_t count)
 static void write_start(void)
 {
     uint8_t block[BLOCK] = {0};
-    for (size_t k = 0; k < THROTTLE_SETTING_WORDS; k++)
+    uint8_t *seeds_at = block + BODY + 4 * NUMBERS;
+    for (size_t k = 0; k < NUMBERS; k++)
         store(block + BODY + 4 * k, setting[k], 4);
     for (size_t k = 0; k < THROTTLE_SEEDS; k++)
-        store(block + BODY + 4 * THROTTLE_SETTING_WORDS + 2 * k, seeds[k], 2);
+        store(seeds_at + 2 * k, seeds[k], 2);
+    store(seeds_at + 2 * THROTTLE_SEEDS, setting[NUMBERS], 1);
     write_block(block, 0, 0);
 }
 

@@ -59,6 +59,7 @@ int main(void)
         .q = 4,
         .banks = 1,
         .threads = 1,
+        .profile = THROTTLE_PROFILE_LARGE,
     };
     throttle_house_seeds(seeds); /* for a product: random numbers from 0 to 1,023 */
     throttle_words(&s, setting);

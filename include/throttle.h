@@ -51,6 +51,26 @@ struct throttle_setting {
                          as the controller may have of one thread */
     uint64_t banks;   /* 1 to 16, each of 65,536 rows */
     uint64_t threads; /* 1 to 32 */
+    uint64_t profile; /* THROTTLE_PROFILE_LARGE or THROTTLE_PROFILE_SMALL */
+};
+
+/*
+ * The profile names the card. The small card's controller has at most 4 banks
+ * and 1,024 history places, and a setting above that is refused with 16 where
+ * the profile is the small one. It changes nothing else: a setting that is
+ * accepted under the small profile is accepted under the large one, with the
+ * same answers. An initialiser that leaves the field out, with names or without,
+ * makes it 0, the large profile; a program that sets the fields one by one has
+ * to set this one too.
+ */
+enum {
+    THROTTLE_PROFILE_LARGE = 0,
+    THROTTLE_PROFILE_SMALL = 1,
+    /* the most banks and cells that an accepted setting of the small profile uses */
+    THROTTLE_SMALL_BANKS = 4,
+    THROTTLE_SMALL_COUNTER_CELLS = 8192,
+    THROTTLE_SMALL_HISTORY_CELLS = 1024,
+    THROTTLE_SMALL_THREAD_CELLS = 384
 };
 
 /*
@@ -58,14 +78,16 @@ struct throttle_setting {
  * length argument, so the library cannot test them: write these names and not
  * the numbers, which can grow where THROTTLE_VERSION_MAJOR does.
  *
- * In version 1 a request wrote two words to out, now it writes three. A program
- * that was compiled with the header of version 1 must be compiled again, and
- * one that lends an array of two words must be changed: the third word would be
- * written past its end. gcc and clang warn of a short array in C where they see
- * its length (THROTTLE_LEAST), and in C++ they do not.
+ * Before version 3 the setting had nine words, now it has ten; in version 1 a
+ * request wrote two words to out, now it writes three. A program that was
+ * compiled with an older header must be compiled again, and one that lends
+ * arrays of nine or two words must be changed: the tenth word would be read
+ * past the end of its setting, the third written past the end of its out. gcc
+ * and clang warn of a short array in C where they see its length
+ * (THROTTLE_LEAST), and in C++ they do not.
  */
 enum {
-    THROTTLE_SETTING_WORDS = 9,
+    THROTTLE_SETTING_WORDS = 10,
     THROTTLE_SEEDS = 64,     /* 16 for each of four hash functions, each 0 to 1,023 */
     THROTTLE_HEAD_CELLS = 22,
     THROTTLE_REQUEST_OUT = 3,
@@ -77,7 +99,7 @@ enum {
 };
 
 /*
- * The calls take the setting as nine words in the order of the struct. This
+ * The calls take the setting as ten words in the order of the struct. This
  * writes them and returns words. Do it once, and again after a change of s.
  */
 static inline const uint64_t *throttle_words(const struct throttle_setting *s,
@@ -92,6 +114,7 @@ static inline const uint64_t *throttle_words(const struct throttle_setting *s,
     words[6] = s->q;
     words[7] = s->banks;
     words[8] = s->threads;
+    words[9] = s->profile;
     return words;
 }
 
@@ -157,7 +180,8 @@ static inline size_t throttle_counter_cells(const struct throttle_setting *s)
 
 /*
  * Cells of ticks and of rows, H = 4 x ceil(tD / tFAW); 0 if tD or tFAW is out
- * of range. More than 4,096 cells are refused with 4.
+ * of range. More than 4,096 cells are refused with 4, and with 16 more than
+ * 1,024 under the small profile.
  */
 static inline size_t throttle_history_cells(const struct throttle_setting *s)
 {
@@ -181,9 +205,10 @@ static inline size_t throttle_thread_cells(const struct throttle_setting *s)
  * nothing: head, buffers and out are as before, and the clock has not moved.
  * So out still holds the answer of an earlier call: look at the number first.
  * Compilers that can warn where it is not looked at do so (THROTTLE_CHECKED).
- * The tests are made in the order of the numbers and the first that fails is
- * returned. 1 to 5 concern the setting and are tested in every call; set-up
- * tests 1 to 6, request and index 1 to 9, done 1 to 10.
+ * The tests are made in the order of the numbers, 16 after 5 and before 6, and
+ * the first that fails is returned. 1 to 5 and 16 concern the setting and are
+ * tested in every call; beside them set-up tests 6, request and index 6 to 9,
+ * done 6 to 10.
  */
 enum throttle_refusal {
     THROTTLE_ANSWERED = 0,
@@ -192,6 +217,7 @@ enum throttle_refusal {
     THROTTLE_BAD_DELAY = 3,        /* tD below tRC or above E */
     THROTTLE_LONG_HISTORY = 4,     /* H above 4,096 */
     THROTTLE_ABOVE_LIMIT = 5,      /* B > L, with B = 2N + 1 + floor((W - 1 - 2 x N x tRC) / tD) */
+    THROTTLE_ABOVE_PROFILE = 16,   /* the small profile, and more than 4 banks or H above 1,024 */
     THROTTLE_SHORT_BUFFER = 6,     /* a buffer has fewer cells than the setting uses */
     THROTTLE_BAD_MEMORY = 7,       /* next history place of H or more, a stored tick after the
                                       last tick, or stored history ticks that rise anywhere
@@ -230,6 +256,7 @@ static inline const char *throttle_refusal_name(uint32_t number)
     case THROTTLE_BAD_DELAY: return "delay below tRC or above W/2";
     case THROTTLE_LONG_HISTORY: return "history too long";
     case THROTTLE_ABOVE_LIMIT: return "bound B above limit L";
+    case THROTTLE_ABOVE_PROFILE: return "setting above the small profile";
     case THROTTLE_SHORT_BUFFER: return "buffer too short";
     case THROTTLE_BAD_MEMORY: return "bad memory contents";
     case THROTTLE_OUTSIDE_SETTING: return "bank, thread or row outside the setting";

@@ -25,9 +25,10 @@ enum {
 };
 
 /*
- * Writes block 0: the setting as nine words (throttle_words of throttle.h) and
- * the seeds. Whether the setting is accepted is not tested.
- *   1  a field of more than 32 bits, or other than 64 seeds
+ * Writes block 0: the setting, of which it takes the ten words (throttle_words
+ * of throttle.h), and the seeds. The last word, the profile mark, goes to byte
+ * 172. Whether the setting is accepted is not tested.
+ *   1  a field of more than 32 bits, a profile mark above 1, or other than 64 seeds
  */
 THROTTLE_CHECKED
 uint32_t throttle_log_start(const uint64_t setting[THROTTLE_LEAST THROTTLE_SETTING_WORDS],

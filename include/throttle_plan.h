@@ -17,17 +17,20 @@ extern "C" {
 enum { THROTTLE_DELAYS_OUT = 2 };
 
 /*
- * The setting as nine words (throttle_words of throttle.h); its delay, word 4,
+ * The setting as ten words (throttle_words of throttle.h); its delay, word 4,
  * plays no part, and neither do the seeds.
  *
  * Returns 0 and writes the least and the greatest delay to out. Exactly the
- * delays from out[0] to out[1] are accepted. Where none is, out is left as it
- * was, and the number of a refusal is returned:
+ * delays from out[0] to out[1] are accepted, under the profile that the setting
+ * names. Where none is, out is left as it was, and the number of a refusal is
+ * returned:
  *   1  a field other than the delay is out of its range, whatever the delay
  *   2  W - 1 < 2 * N * tRC, whatever the delay
  *   3  the smallest delay with B <= L is below tRC or above W/2
  *   4  the smallest delay with B <= L needs more than 4,096 history cells
  *   5  B > L with every delay from 1 to 2^29
+ *  16  some delay is accepted under the large profile, and none under the small
+ *      one, which the setting names
  */
 THROTTLE_CHECKED
 uint32_t throttle_delays(const uint64_t setting[THROTTLE_LEAST THROTTLE_SETTING_WORDS],

@@ -1,8 +1,9 @@
 /*
  * Every archive of the project in one program: the planner, the throttle and
- * the log writer are called with one setting, and what they give is compared
- * with what the specification says of it. The argument is the path of
- * samples/sample.log, whose first block is what the log writer must write.
+ * the log writer are called with one setting, under both profiles, and what they
+ * give is compared with what the specification says of it. The argument is the
+ * path of samples/sample.log, whose first block is what the log writer must
+ * write under the large profile.
  */
 #include "throttle.h"
 #include "throttle_log.h"
@@ -32,23 +33,36 @@ static int first_block(const char *name, uint8_t block[THROTTLE_LOG_BLOCK])
     return got == 1;
 }
 
-int main(int count, char **arguments)
+static const struct throttle_setting s = {
+    .w = 40, .trc = 1, .tfaw = 4, .n = 2, .td = 1, .l = 10, .q = 4, .banks = 1, .threads = 1};
+static uint64_t setting[THROTTLE_SETTING_WORDS];
+static uint16_t seeds[THROTTLE_SEEDS];
+
+/* B = 5 + floor(35/tD) is at most 10 from tD = 6 on; W/2 is 20, and the small profile allows 256 x 4 ticks. */
+static void check_planner(void)
 {
-    static const struct throttle_setting s = {
-        .w = 40, .trc = 1, .tfaw = 4, .n = 2, .td = 1, .l = 10, .q = 4, .banks = 1, .threads = 1};
-    static uint64_t setting[THROTTLE_SETTING_WORDS], head[THROTTLE_HEAD_CELLS], ticks[8];
-    static uint16_t seeds[THROTTLE_SEEDS], counters[2048];
-    static uint32_t rows[8], threads[3];
-    uint64_t delays[THROTTLE_DELAYS_OUT] = {0, 0}, answer[THROTTLE_REQUEST_OUT] = {9, 9, 9};
-    uint8_t written[THROTTLE_LOG_BLOCK] = {0}, wanted[THROTTLE_LOG_BLOCK] = {0};
-
-    throttle_house_seeds(seeds);
-
-    /* B = 5 + floor(35/tD) is at most 10 from tD = 6 on; W/2 is 20. */
-    check(throttle_delays(throttle_words(&s, setting), delays) == 0, "throttle_delays refuses the setting");
-    check(delays[0] == 6 && delays[1] == 20, "throttle_delays does not answer 6 and 20");
-
+    uint64_t delays[THROTTLE_DELAYS_OUT] = {0, 0};
+    throttle_words(&s, setting);
+    for (uint64_t mark = THROTTLE_PROFILE_LARGE; mark <= THROTTLE_PROFILE_SMALL; mark++) {
+        setting[9] = mark;
+        check(throttle_delays(setting, delays) == 0, "throttle_delays refuses the setting");
+        check(delays[0] == 6 && delays[1] == 20, "throttle_delays does not answer 6 and 20");
+    }
+    setting[7] = THROTTLE_SMALL_BANKS + 1;
+    check(throttle_delays(setting, delays) == THROTTLE_ABOVE_PROFILE, "throttle_delays has delays for five banks");
+    check(delays[0] == 6 && delays[1] == 20, "a refused throttle_delays writes to out");
+    throttle_words(&s, setting);
     setting[4] = delays[0];
+}
+
+/* The first request under this mark is opened. */
+static void check_throttle(uint64_t mark)
+{
+    static uint64_t head[THROTTLE_HEAD_CELLS], ticks[8];
+    static uint16_t counters[2048];
+    static uint32_t rows[8], threads[3];
+    uint64_t answer[THROTTLE_REQUEST_OUT] = {9, 9, 9};
+    setting[9] = mark;
     check(throttle_setup(setting, seeds, THROTTLE_SEEDS, head, counters, 2048, ticks, 8, rows, 8, threads, 3) == 0,
           "throttle_setup refuses the setting");
     check(throttle_request(setting, seeds, THROTTLE_SEEDS, head, counters, 2048, ticks, 8, rows, 8, threads, 3, 0, 0, 0, 5,
@@ -56,9 +70,51 @@ int main(int count, char **arguments)
           "throttle_request refuses the first request");
     check(answer[0] == THROTTLE_OPENED && answer[1] == 0 && answer[2] == 1,
           "throttle_request does not open the first row with 1 left");
+}
 
+/* Adds to a sum of a block. */
+static void add_to_sum(uint8_t *sum, uint32_t more)
+{
+    uint32_t x = (sum[0] + 256u * sum[1] + more) % 65521;
+    sum[0] = (uint8_t)x;
+    sum[1] = (uint8_t)(x >> 8);
+}
+
+/*
+ * Block 0 under each mark: the sample's under the large profile, and the same
+ * with 1 in byte 172 and the sums of that under the small one. Any other mark is
+ * refused and leaves the block.
+ */
+static void check_log(const uint8_t sample[THROTTLE_LOG_BLOCK])
+{
+    static const uint64_t wrong[] = {2, 3, 255, 256, UINT64_C(1) << 32, (UINT64_C(1) << 32) + 1, UINT64_MAX};
+    uint8_t written[THROTTLE_LOG_BLOCK] = {0}, wanted[THROTTLE_LOG_BLOCK];
+    memcpy(wanted, sample, sizeof wanted);
+    setting[9] = THROTTLE_PROFILE_LARGE;
     check(throttle_log_start(setting, seeds, THROTTLE_SEEDS, written) == 0, "throttle_log_start refuses the setting");
-    check(count == 2 && first_block(arguments[1], wanted), "the sample log cannot be read");
     check(memcmp(written, wanted, sizeof written) == 0, "throttle_log_start does not write the sample's first block");
+    setting[9] = THROTTLE_PROFILE_SMALL;
+    wanted[172] = 1;
+    add_to_sum(wanted + 508, 1);
+    add_to_sum(wanted + 510, 173);
+    check(throttle_log_start(setting, seeds, THROTTLE_SEEDS, written) == 0, "throttle_log_start refuses the small profile");
+    check(memcmp(written, wanted, sizeof written) == 0, "throttle_log_start does not write the mark at byte 172");
+    for (size_t k = 0; k < sizeof wrong / sizeof *wrong; k++) {
+        setting[9] = wrong[k];
+        check(throttle_log_start(setting, seeds, THROTTLE_SEEDS, written) == THROTTLE_OUT_OF_RANGE,
+              "throttle_log_start takes a mark above 1");
+        check(memcmp(written, wanted, sizeof written) == 0, "a refused throttle_log_start writes to the block");
+    }
+}
+
+int main(int count, char **arguments)
+{
+    uint8_t sample[THROTTLE_LOG_BLOCK] = {0};
+    throttle_house_seeds(seeds);
+    check(count == 2 && first_block(arguments[1], sample), "the sample log cannot be read");
+    check_planner();
+    check_throttle(THROTTLE_PROFILE_LARGE);
+    check_throttle(THROTTLE_PROFILE_SMALL);
+    check_log(sample);
     return failed;
 }

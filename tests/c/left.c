@@ -7,7 +7,7 @@
 #include "check.h"
 #include "lent.h"
 
-static const struct throttle_setting S = {40, 1, 4, 2, 6, 10, 4, 1, 1};
+static const struct throttle_setting S = {40, 1, 4, 2, 6, 10, 4, 1, 1, THROTTLE_PROFILE_LARGE};
 
 /* E = 200, H = 20, B = 9 + floor((399 - 8)/20) = 28 */
 static const struct throttle_setting FOUR = {
@@ -177,7 +177,8 @@ static void refusals(void)
  */
 static void down_from_n(uint64_t n, uint16_t row)
 {
-    const struct throttle_setting s = {1 << 30, 1, 65535, n, 65535, 1 << 24, 1, 1, 1};
+    const struct throttle_setting s = {1 << 30, 1, 65535, n, 65535, 1 << 24,
+                                       1,       1, 1,     THROTTLE_PROFILE_LARGE};
     struct lent m = lend(&s);
     CHECK(setup(&m) == 0);
     for (uint64_t i = 0; i < n && i < 1000; i++)

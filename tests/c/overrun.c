@@ -6,7 +6,7 @@
 
 int main(void)
 {
-    const struct throttle_setting s = {40, 1, 4, 2, 6, 10, 4, 1, 1};
+    const struct throttle_setting s = {40, 1, 4, 2, 6, 10, 4, 1, 1, THROTTLE_PROFILE_LARGE};
     struct lent m = lend(&s);
     m.threads = realloc(m.threads, 2 * sizeof *m.threads);
     if (!m.threads)

@@ -5,10 +5,10 @@
 #include "check.h"
 #include "lent.h"
 
-static const struct throttle_setting S = {40, 1, 4, 2, 6, 10, 4, 1, 1};
+static const struct throttle_setting S = {40, 1, 4, 2, 6, 10, 4, 1, 1, THROTTLE_PROFILE_LARGE};
 
 /* Two banks and two threads, of which each may have one request in flight. */
-static const struct throttle_setting TWO = {40, 1, 4, 2, 6, 10, 1, 2, 2};
+static const struct throttle_setting TWO = {40, 1, 4, 2, 6, 10, 1, 2, 2, THROTTLE_PROFILE_LARGE};
 
 /* A request of row 5 that is answered so, with wait tick 0. */
 static int answers(struct lent *m, uint64_t tick, uint64_t bank, uint64_t thread, uint64_t answer)

@@ -1,29 +1,59 @@
 /*
- * Arrays that a request and an index reading are lent without a length. With
- * -DSHORT_NAME=1 one of them has an element less than the header asks for, as the
- * two words that a request of version 1 wrote: gcc and clang warn of it.
+ * Arrays that the calls are lent without a length. With -DSHORT=NAME the one of
+ * that name has an element less than the header asks for, as the nine words that
+ * a setting had before version 3, or the two that a request of version 1 wrote:
+ * gcc and clang warn of it.
  */
 #include "throttle.h"
+#include "throttle_log.h"
+#include "throttle_plan.h"
 
-#ifndef SHORT_SETTING
-#define SHORT_SETTING 0
+/* The settings of the calls and the words that throttle_words writes, then the other arrays. */
+enum {
+    NONE,
+    SETUP_SETTING,
+    REQUEST_SETTING,
+    DONE_SETTING,
+    INDEX_SETTING,
+    LOG_SETTING,
+    PLAN_SETTING,
+    WORDS,
+    HEAD,
+    REQUEST_OUT,
+    INDEX_OUT,
+    DELAYS_OUT,
+    BLOCK
+};
+#ifndef SHORT
+#define SHORT NONE
 #endif
-#ifndef SHORT_HEAD
-#define SHORT_HEAD 0
-#endif
-#ifndef SHORT_REQUEST_OUT
-#define SHORT_REQUEST_OUT 0
-#endif
-#ifndef SHORT_INDEX_OUT
-#define SHORT_INDEX_OUT 0
-#endif
+#define LENGTH(name, cells) ((cells) - (SHORT == (name)))
 
-uint32_t ask(const uint16_t *seeds, uint16_t *counters, uint64_t *ticks, uint32_t *rows, uint32_t *threads);
+static uint64_t setup_setting[LENGTH(SETUP_SETTING, THROTTLE_SETTING_WORDS)];
+static uint64_t request_setting[LENGTH(REQUEST_SETTING, THROTTLE_SETTING_WORDS)];
+static uint64_t done_setting[LENGTH(DONE_SETTING, THROTTLE_SETTING_WORDS)];
+static uint64_t index_setting[LENGTH(INDEX_SETTING, THROTTLE_SETTING_WORDS)];
+static uint64_t log_setting[LENGTH(LOG_SETTING, THROTTLE_SETTING_WORDS)];
+static uint64_t plan_setting[LENGTH(PLAN_SETTING, THROTTLE_SETTING_WORDS)];
+static uint64_t words[LENGTH(WORDS, THROTTLE_SETTING_WORDS)];
+static uint64_t head[LENGTH(HEAD, THROTTLE_HEAD_CELLS)];
+static uint64_t request_out[LENGTH(REQUEST_OUT, THROTTLE_REQUEST_OUT)];
+static uint64_t index_out[LENGTH(INDEX_OUT, THROTTLE_INDEX_OUT)];
+static uint64_t delays_out[LENGTH(DELAYS_OUT, THROTTLE_DELAYS_OUT)];
+static uint8_t block[LENGTH(BLOCK, THROTTLE_LOG_BLOCK)];
 
-uint32_t ask(const uint16_t *seeds, uint16_t *counters, uint64_t *ticks, uint32_t *rows, uint32_t *threads)
+static uint16_t seeds[THROTTLE_SEEDS], counters[2048];
+static uint64_t ticks[8];
+static uint32_t rows[8], threads[3];
+
+#define STATE(setting) setting, seeds, THROTTLE_SEEDS, head, counters, 2048, ticks, 8, rows, 8, threads, 3
+
+uint32_t call_all(const struct throttle_setting *s);
+
+uint32_t call_all(const struct throttle_setting *s)
 {
-    static uint64_t setting[THROTTLE_SETTING_WORDS - SHORT_SETTING], head[THROTTLE_HEAD_CELLS - SHORT_HEAD];
-    uint64_t out[THROTTLE_REQUEST_OUT - SHORT_REQUEST_OUT], read[THROTTLE_INDEX_OUT - SHORT_INDEX_OUT];
-    return throttle_request(setting, seeds, THROTTLE_SEEDS, head, counters, 2048, ticks, 8, rows, 8, threads, 3, 0, 0, 0, 5, out) +
-           throttle_index(setting, seeds, THROTTLE_SEEDS, head, counters, 2048, ticks, 8, rows, 8, threads, 3, 0, 0, 0, read);
+    throttle_words(s, words);
+    return throttle_setup(STATE(setup_setting)) + throttle_request(STATE(request_setting), 0, 0, 0, 5, request_out) +
+           throttle_done(STATE(done_setting), 0, 0, 0) + throttle_index(STATE(index_setting), 0, 0, 0, index_out) +
+           throttle_log_start(log_setting, seeds, THROTTLE_SEEDS, block) + throttle_delays(plan_setting, delays_out);
 }

@@ -22,14 +22,15 @@ _Static_assert(_Generic(&throttle_done, done_type *: 1, default: 0), "type of do
 _Static_assert(_Generic(&throttle_index, index_type *: 1, default: 0), "type of index");
 _Static_assert(sizeof(struct throttle_setting) == THROTTLE_SETTING_WORDS * sizeof(uint64_t),
                "a word for each field");
-_Static_assert(THROTTLE_SETTING_WORDS == 9 && THROTTLE_HEAD_CELLS == 22, "what is given");
+_Static_assert(THROTTLE_SETTING_WORDS == 10 && THROTTLE_HEAD_CELLS == 22, "what is given");
 _Static_assert(THROTTLE_REQUEST_OUT == 3 && THROTTLE_INDEX_OUT == 3, "what is given back");
 
-static const struct throttle_setting S = {40, 1, 4, 2, 6, 10, 4, 1, 1};
+static const struct throttle_setting S = {40, 1, 4, 2, 6, 10, 4, 1, 1, THROTTLE_PROFILE_LARGE};
 
-/* B = 9 + floor((4,001 - 40)/90) = 53, H = 4 x ceil(90/7) = 52 */
-static const struct throttle_setting NINE = {
-    .w = 4002, .trc = 5, .tfaw = 7, .n = 4, .td = 90, .l = 60, .q = 11, .banks = 3, .threads = 6};
+/* Ten numbers that differ. B = 9 + floor((4,001 - 40)/90) = 53, H = 4 x ceil(90/7) = 52 */
+static const struct throttle_setting TEN = {
+    .w = 4002, .trc = 5, .tfaw = 7, .n = 4, .td = 90, .l = 60, .q = 11, .banks = 3, .threads = 6,
+    .profile = THROTTLE_PROFILE_SMALL};
 
 static const uint64_t FIRST = (UINT64_C(1) << 40) + 17;
 static const uint64_t LIMIT = UINT64_C(1) << 62;
@@ -50,12 +51,14 @@ static int opened_and_done(struct lent *m, uint64_t tick)
 static void sizes(void)
 {
     uint64_t words[THROTTLE_SETTING_WORDS];
-    CHECK(throttle_counter_cells(&NINE) == 3 * 2048);
-    CHECK(throttle_history_cells(&NINE) == 52);
-    CHECK(throttle_thread_cells(&NINE) == 3 * 6 * 3);
+    CHECK(throttle_counter_cells(&TEN) == 3 * 2048);
+    CHECK(throttle_history_cells(&TEN) == 52);
+    CHECK(throttle_thread_cells(&TEN) == 3 * 6 * 3);
     CHECK(throttle_history_cells(&S) == 8);
-    CHECK(throttle_words(&NINE, words) == words);
-    CHECK(memcmp(words, &NINE, sizeof words) == 0);
+    CHECK(throttle_words(&TEN, words) == words);
+    CHECK(memcmp(words, &TEN, sizeof words) == 0);
+    const struct throttle_setting unnamed = {.w = 40, .threads = 1};
+    CHECK(throttle_words(&unnamed, words)[8] == 1 && words[9] == THROTTLE_PROFILE_LARGE);
     struct throttle_setting none = {0};
     CHECK(throttle_counter_cells(&none) == 0);
     CHECK(throttle_history_cells(&none) == 0);
@@ -82,14 +85,14 @@ static void house_seeds(void)
 /* Every number has a name, no two the same one, and "unknown" is that of all the others. */
 static void names(void)
 {
-    for (uint32_t i = 0; i < 14; i++) {
-        CHECK(strcmp(throttle_refusal_name(i), "unknown") != 0);
-        for (uint32_t k = 0; k < i; k++)
+    for (uint32_t i = 0; i < 20; i++) {
+        int named = i < 14 || i == THROTTLE_ABOVE_PROFILE;
+        CHECK(named == (strcmp(throttle_refusal_name(i), "unknown") != 0));
+        for (uint32_t k = 0; named && k < i; k++)
             CHECK(strcmp(throttle_refusal_name(i), throttle_refusal_name(k)) != 0);
     }
     CHECK(strcmp(throttle_refusal_name(THROTTLE_ANSWERED), "answered") == 0);
     CHECK(strcmp(throttle_refusal_name(THROTTLE_NONE_IN_FLIGHT), "none in flight") == 0);
-    CHECK(strcmp(throttle_refusal_name(14), "unknown") == 0);
     CHECK(strcmp(throttle_refusal_name(UINT32_MAX), "unknown") == 0);
     CHECK(strcmp(throttle_answer_name(THROTTLE_OPENED), "opened") == 0);
     CHECK(strcmp(throttle_answer_name(THROTTLE_WAIT_BANK), "wait for bank") == 0);
@@ -150,7 +153,7 @@ static void samples(void)
 /* Four activations in three banks, then the rank's rule. */
 static void rank_rule(void)
 {
-    struct lent m = lend(&NINE);
+    struct lent m = lend(&TEN);
     CHECK(setup(&m) == 0);
     for (uint64_t bank = 0; bank < 3; bank++)
         CHECK(request(&m, 100, bank, 1, 8) == 0 && m.out[0] == THROTTLE_OPENED);
@@ -162,7 +165,7 @@ static void rank_rule(void)
 /* Activates row 0xBEEF of bank 2 for thread 4 and looks at every cell. */
 static void order_of_arguments(void)
 {
-    struct lent m = lend(&NINE);
+    struct lent m = lend(&TEN);
     const size_t cell = (2 * 6 + 4) * 3;
     CHECK(setup(&m) == 0);
     CHECK(request(&m, FIRST, 2, 4, 0xBEEF) == 0);
@@ -192,7 +195,7 @@ static void order_of_arguments(void)
 /* The four counters of a row, in bank 2 and both filters, and no other. */
 static void order_of_seeds(void)
 {
-    struct lent m = lend(&NINE);
+    struct lent m = lend(&TEN);
     uint16_t place[4] = {0};
     for (unsigned f = 0; f < 4; f++)
         for (unsigned i = 0; i < 16; i++)
@@ -232,7 +235,7 @@ static int outs_kept(const struct lent *m)
 /* Request, done and index are refused with this number and change nothing. */
 static int refused(struct lent *m, uint32_t number, uint64_t tick, uint64_t bank, uint64_t thread)
 {
-    struct lent before = copy(m, &NINE);
+    struct lent before = copy(m, &TEN);
     mark_outs(m);
     int all = request(m, tick, bank, thread, 9) == number &&
               done(m, tick, bank, thread) == number && reading(m, tick, bank, thread) == number;
@@ -241,14 +244,15 @@ static int refused(struct lent *m, uint32_t number, uint64_t tick, uint64_t bank
     return all && kept;
 }
 
-/* Refusals 1 to 5, by set-up and by the other calls. */
+/* Refusals 1 to 5 and 16, by set-up and by the other calls. */
 static void refused_settings(struct lent *m)
 {
     static const struct {
         unsigned field;
         uint64_t value;
         uint32_t number;
-    } cases[] = {{0, 4003, 1}, {1, 501, 2}, {4, 4, 3}, {4, 2002, 3}, {2, 0, 1}, {5, 52, 5}};
+    } cases[] = {{0, 4003, 1}, {1, 501, 2}, {4, 4, 3}, {4, 2002, 3},
+                 {2, 0, 1},    {5, 52, 5},  {9, 2, 1}, {7, 5, 16}};
     for (size_t i = 0; i < sizeof cases / sizeof *cases; i++) {
         uint64_t kept = m->words[cases[i].field];
         m->words[cases[i].field] = cases[i].value;
@@ -258,7 +262,7 @@ static void refused_settings(struct lent *m)
     }
     m->words[0] = 1 << 20, m->words[4] = 1024 * 7 + 1;
     CHECK(setup(m) == THROTTLE_LONG_HISTORY && refused(m, THROTTLE_LONG_HISTORY, FIRST, 2, 4));
-    throttle_words(&NINE, m->words);
+    throttle_words(&TEN, m->words);
     for (unsigned field = 0; field < THROTTLE_SETTING_WORDS; field++) {
         m->words[field] += WIDE;
         CHECK(setup(m) == THROTTLE_OUT_OF_RANGE);
@@ -292,7 +296,7 @@ static void refused_lengths(struct lent *m)
 /* Every refusal of every call, each argument cut to no fewer than 64 bits. */
 static void refusals(void)
 {
-    struct lent m = lend(&NINE);
+    struct lent m = lend(&TEN);
     CHECK(setup(&m) == 0);
     CHECK(request(&m, FIRST, 2, 4, 0xBEEF) == 0);
     refused_settings(&m);
@@ -321,14 +325,14 @@ static void refusals(void)
  */
 static void longer_buffers(void)
 {
-    struct throttle_setting wide = NINE;
+    struct throttle_setting wide = TEN;
     wide.td += 7;
     struct lent m = lend(&wide);
     m.counters = realloc(m.counters, (m.counters_len += 3) * 2);
     m.threads = realloc(m.threads, (m.threads_len += 3) * 4);
     if (!m.counters || !m.threads)
         abort();
-    throttle_words(&NINE, m.words);
+    throttle_words(&TEN, m.words);
     CHECK(setup(&m) == 0);
     for (uint64_t tick = FIRST; tick < FIRST + 3 * 4002; tick += 3) {
         uint64_t bank = tick % 3, thread = tick % 5;
@@ -353,7 +357,7 @@ static void published(void)
     };
     for (size_t i = 0; i < sizeof rows / sizeof *rows; i++) {
         struct throttle_setting s = {256000000, 185, 140, rows[i].n, rows[i].td, rows[i].bound,
-                                     64,        16,  8};
+                                     64,        16,  8,   THROTTLE_PROFILE_LARGE};
         CHECK(throttle_history_cells(&s) == rows[i].history);
         int too_long = rows[i].history > 4096;
         struct lent m = lend(&s);

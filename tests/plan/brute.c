@@ -1,8 +1,11 @@
 /*
- * throttle_delays against brute force: the refusals of document 01, written out
- * one by one, are tried on every delay from 1 on. A delay above W is above W/2
- * and has B = 2N + 1, so trying up to W + 1 settles what every longer delay in
- * range gets.
+ * throttle_delays against brute force: the refusals of documents 01 and 02 about
+ * a setting, written out one by one, are tried on every delay from 1 on. A delay
+ * above W is above W/2 and has B = 2N + 1, so trying up to W + 1 settles what
+ * every longer delay in range gets.
+ *
+ * SMALL_BANKS and SMALL_PLACES are the limits of the small profile. tests/plan/run
+ * also gives others, with which a setting has to be found that gets another answer.
  */
 #include <inttypes.h>
 #include <stdio.h>
@@ -11,8 +14,15 @@
 #include "throttle.h"
 #include "throttle_plan.h"
 
+#ifndef SMALL_BANKS
+#define SMALL_BANKS 4
+#endif
+#ifndef SMALL_PLACES
+#define SMALL_PLACES 1024
+#endif
+
 static const uint64_t most_delay = 1u << 29;
-static uint64_t tried, by_code[6];
+static uint64_t tried, by_code[THROTTLE_ABOVE_PROFILE + 1];
 
 static int between(uint64_t low, uint64_t high, uint64_t x) { return low <= x && x <= high; }
 
@@ -23,26 +33,28 @@ static uint64_t bound(const struct throttle_setting *s)
     return 2 * s->n + 1 + rest / s->td;
 }
 
-/* Refusals 1 to 5 in their order. */
+/* Refusals 1 to 5 and 16 in their order. */
 static uint32_t refusal(const struct throttle_setting *s)
 {
     if (!between(2, 1u << 30, s->w) || s->w % 2 != 0 || !between(1, 65535, s->trc) ||
         !between(1, 65535, s->tfaw) || !between(1, 32768, s->n) || !between(1, most_delay, s->td) ||
         !between(1, 1u << 24, s->l) || !between(1, 255, s->q) || !between(1, 16, s->banks) ||
-        !between(1, 32, s->threads))
+        !between(1, 32, s->threads) || s->profile > 1)
         return 1;
+    uint64_t places = 4 * ((s->td + s->tfaw - 1) / s->tfaw);
     if (s->w - 1 < 2 * s->n * s->trc) return 2;
     if (s->td < s->trc || s->td > s->w / 2) return 3;
-    if (4 * ((s->td + s->tfaw - 1) / s->tfaw) > 4096) return 4;
+    if (places > 4096) return 4;
     if (bound(s) > s->l) return 5;
+    if (s->profile == 1 && (s->banks > SMALL_BANKS || places > SMALL_PLACES)) return 16;
     return 0;
 }
 
 static void fail(const struct throttle_setting *s, const char *what, uint64_t got, uint64_t wanted)
 {
     printf("plan: W %" PRIu64 " tRC %" PRIu64 " tFAW %" PRIu64 " N %" PRIu64 " L %" PRIu64
-           ": %s is %" PRIu64 ", by brute force %" PRIu64 "\n",
-           s->w, s->trc, s->tfaw, s->n, s->l, what, got, wanted);
+           " banks %" PRIu64 " profile %" PRIu64 ": %s is %" PRIu64 ", by brute force %" PRIu64 "\n",
+           s->w, s->trc, s->tfaw, s->n, s->l, s->banks, s->profile, what, got, wanted);
     exit(1);
 }
 
@@ -51,33 +63,59 @@ static void same(const struct throttle_setting *s, const char *what, uint64_t go
     if (got != wanted) fail(s, what, got, wanted);
 }
 
+/*
+ * What trying every delay gives: the accepted ones, the refusal of delay 1, and
+ * that of the smallest delay with B <= L, or 5 if there is none.
+ */
+struct found {
+    uint64_t accepted, least, greatest;
+    uint32_t first, smallest;
+};
+
+static struct found search(struct throttle_setting s)
+{
+    struct found f = {0, 0, 0, 0, 5};
+    int has_smallest = 0;
+    for (s.td = 1; s.td <= s.w + 1 && s.td <= most_delay; s.td++) {
+        uint32_t r = refusal(&s);
+        if (s.td == 1) f.first = r;
+        if (r == 0) {
+            if (f.accepted == 0) f.least = s.td;
+            f.greatest = s.td;
+            f.accepted++;
+        }
+        if (!has_smallest && bound(&s) <= s.l) {
+            has_smallest = 1;
+            f.smallest = r;
+        }
+    }
+    return f;
+}
+
+/* The number for s by what was found: 16 if no delay is accepted, and with the large profile one is. */
+static uint32_t number(struct throttle_setting s, const struct found *f)
+{
+    if (f->accepted > 0) return 0;
+    if (f->first == 1 || f->first == 2) return f->first;
+    if (s.profile == 1) {
+        s.profile = 0;
+        if (search(s).accepted > 0) return 16;
+    }
+    return f->smallest;
+}
+
 /* Compares the answer for s with what trying every delay gives. */
 static void try_setting(struct throttle_setting s)
 {
     uint64_t words[THROTTLE_SETTING_WORDS], out[THROTTLE_DELAYS_OUT] = {111, 222};
     uint32_t code = throttle_delays(throttle_words(&s, words), out);
-    uint64_t least = 0, greatest = 0, accepted = 0;
-    uint32_t first = 0, smallest = 5;
-    int has_smallest = 0;
-    for (s.td = 1; s.td <= s.w + 1 && s.td <= most_delay; s.td++) {
-        uint32_t r = refusal(&s);
-        if (s.td == 1) first = r;
-        if (r == 0) {
-            if (accepted == 0) least = s.td;
-            greatest = s.td;
-            accepted++;
-        }
-        if (!has_smallest && bound(&s) <= s.l) {
-            has_smallest = 1;
-            smallest = r;
-        }
-    }
-    uint32_t wanted = accepted > 0 ? 0 : first == 1 || first == 2 ? first : smallest;
+    struct found f = search(s);
+    uint32_t wanted = number(s, &f);
     same(&s, "the code", code, wanted);
     if (wanted == 0) {
-        same(&s, "the number of accepted delays", out[1] - out[0] + 1, accepted);
-        same(&s, "the least delay", out[0], least);
-        same(&s, "the greatest delay", out[1], greatest);
+        same(&s, "the number of accepted delays", out[1] - out[0] + 1, f.accepted);
+        same(&s, "the least delay", out[0], f.least);
+        same(&s, "the greatest delay", out[1], f.greatest);
     } else {
         same(&s, "out[0] of a refusal", out[0], 111);
         same(&s, "out[1] of a refusal", out[1], 222);
@@ -95,39 +133,65 @@ static void expect(struct throttle_setting s, uint32_t code, uint64_t least, uin
     same(&s, "the greatest delay", out[1], greatest);
 }
 
-static struct throttle_setting small(uint64_t w, uint64_t trc, uint64_t tfaw, uint64_t n, uint64_t l)
+static struct throttle_setting large(uint64_t w, uint64_t trc, uint64_t tfaw, uint64_t n, uint64_t l)
 {
-    struct throttle_setting s = {w, trc, tfaw, n, 0, l, 4, 16, 8};
+    struct throttle_setting s = {w, trc, tfaw, n, 0, l, 4, 16, 8, THROTTLE_PROFILE_LARGE};
+    return s;
+}
+
+/* The same on the small card, with so many banks. */
+static struct throttle_setting small(struct throttle_setting s, uint64_t banks)
+{
+    s.banks = banks;
+    s.profile = THROTTLE_PROFILE_SMALL;
     return s;
 }
 
 /* Document 01: tD 31,065 is the least for N 4,096 and L 16,384, and 31,064 is refused with 5. */
 static void document_cases(void)
 {
-    struct throttle_setting s = small(256000000, 185, 140, 4096, 16384);
+    struct throttle_setting s = large(256000000, 185, 140, 4096, 16384);
     expect(s, 0, 31065, 143360);
     s.td = 31065;
     same(&s, "the refusal of 31,065", refusal(&s), 0);
     s.td = 31064;
     same(&s, "the refusal of 31,064", refusal(&s), 5);
-    expect(small(256000000, 185, 140, 8192, 16384), 5, 0, 0);
-    expect(small(256000000, 185, 140, 512, 2048), 4, 0, 0);
-    expect(small(40, 1, 4, 2, 10), 0, 6, 20);
+    expect(large(256000000, 185, 140, 8192, 16384), 5, 0, 0);
+    expect(large(256000000, 185, 140, 512, 2048), 4, 0, 0);
+    expect(large(40, 1, 4, 2, 10), 0, 6, 20);
     /* the smallest delay with B <= L is above 2^29 */
-    expect(small(1u << 30, 1, 1, 1, 3), 5, 0, 0);
+    expect(large(1u << 30, 1, 1, 1, 3), 5, 0, 0);
 }
 
-/* Each field other than the delay at, below and above its bounds. */
+/* The small card under the same timing; 35,840 is 256 x tFAW. */
+static void small_card_cases(void)
+{
+    struct throttle_setting s = large(256000000, 185, 140, 4096, 16384);
+    expect(small(s, 4), 0, 31065, 35840);
+    expect(small(s, 1), 0, 31065, 35840);
+    expect(small(s, 5), 16, 0, 0);
+    expect(small(large(256000000, 185, 140, 8192, 16384), 5), 5, 0, 0);
+    expect(small(large(256000000, 185, 140, 512, 2048), 5), 4, 0, 0);
+    expect(small(large(40, 1, 4, 2, 10), 1), 0, 6, 20);
+    /* the least limit that the small card can keep, and the one below it */
+    expect(small(large(256000000, 185, 140, 1, 7145), 4), 0, 35840, 35840);
+    expect(small(large(256000000, 185, 140, 1, 7144), 4), 16, 0, 0);
+    expect(small(large(256000000, 185, 140, 2, 7145), 4), 16, 0, 0);
+}
+
+/* Each field other than the delay below and above its range. */
 static void bounds(void)
 {
-    static const uint64_t high[THROTTLE_SETTING_WORDS] = {1u << 30, 65535, 65535, 32768, 0, 1u << 24, 255, 16, 32};
+    static const uint64_t low[THROTTLE_SETTING_WORDS] = {2, 1, 1, 1, 0, 1, 1, 1, 1, 0};
+    static const uint64_t high[THROTTLE_SETTING_WORDS] = {1u << 30, 65535, 65535, 32768, 0, 1u << 24, 255, 16, 32, 1};
     for (int i = 0; i < THROTTLE_SETTING_WORDS; i++) {
         if (i == 4) continue;
-        for (int k = 0; k < 3; k++) {
-            uint64_t words[THROTTLE_SETTING_WORDS] = {2000, 1, 4, 2, 0, 16, 4, 16, 8};
+        const uint64_t wrong[] = {low[i] - 1, high[i] + 1, high[i] + 2, low[i] + (UINT64_C(1) << 32), UINT64_MAX};
+        for (size_t k = 0; k < sizeof wrong / sizeof *wrong; k++) {
+            uint64_t words[THROTTLE_SETTING_WORDS] = {2000, 1, 4, 2, 0, 16, 4, 4, 8, 0};
             uint64_t out[THROTTLE_DELAYS_OUT] = {111, 222};
-            words[i] = k == 0 ? 0 : k == 1 ? high[i] + 2 : UINT64_MAX;
-            struct throttle_setting s = small(words[0], words[1], words[2], words[3], words[5]);
+            words[i] = wrong[k];
+            struct throttle_setting s = large(words[0], words[1], words[2], words[3], words[5]);
             same(&s, "the code of a field out of range", throttle_delays(words, out), 1);
             same(&s, "out[0] of a refusal", out[0], 111);
             same(&s, "out[1] of a refusal", out[1], 222);
@@ -135,30 +199,50 @@ static void bounds(void)
     }
 }
 
-int main(void)
+/* Windows of up to 26 ticks, under each profile. */
+static void short_windows(void)
 {
-    document_cases();
-    bounds();
     for (uint64_t w = 1; w <= 26; w++)
         for (uint64_t trc = 0; trc <= 6; trc++)
             for (uint64_t tfaw = 0; tfaw <= 2; tfaw++)
                 for (uint64_t n = 0; n <= 6; n++)
-                    for (uint64_t l = 0; l <= 20; l++) try_setting(small(w, trc, tfaw, n, l));
-    /* longer windows, where the history limit counts */
+                    for (uint64_t l = 0; l <= 20; l++) {
+                        struct throttle_setting s = large(w, trc, tfaw, n, l);
+                        try_setting(s);
+                        try_setting(small(s, 4));
+                        try_setting(small(s, 5));
+                    }
+}
+
+/* Longer windows, where the limits of the history count; every second setting has the small profile. */
+static void longer_windows(void)
+{
     uint64_t x = 1;
     for (int i = 0; i < 20000; i++) {
-        uint64_t r[5];
-        for (int k = 0; k < 5; k++) {
+        uint64_t r[6];
+        for (int k = 0; k < 6; k++) {
             x = x * 6364136223846793005u + 1442695040888963407u;
             r[k] = x >> 33;
         }
         uint64_t trc = r[1] % 8 == 0 ? 1000 + r[1] % 100 : 1 + r[1] % 40;
-        try_setting(small(2 + 2 * (r[0] % 6000), trc, 1 + r[2] % 3, 1 + r[3] % 12, 1 + r[4] % 60));
+        struct throttle_setting s =
+            large(2 + 2 * (r[0] % 6000), trc, 1 + r[2] % 3, 1 + r[3] % 12, 1 + r[4] % 60);
+        try_setting(i % 2 == 0 ? s : small(s, 1 + r[5] % 5));
     }
+}
+
+int main(void)
+{
+    static const uint32_t codes[] = {1, 2, 3, 4, 5, 16};
+    document_cases();
+    small_card_cases();
+    bounds();
+    short_windows();
+    longer_windows();
     printf("plan: %" PRIu64 " settings agree with brute force; accepted %" PRIu64, tried, by_code[0]);
-    for (int code = 1; code <= 5; code++) {
-        printf(", refused with %d %" PRIu64, code, by_code[code]);
-        if (by_code[code] == 0) return 1;
+    for (size_t k = 0; k < sizeof codes / sizeof *codes; k++) {
+        printf(", refused with %" PRIu32 " %" PRIu64, codes[k], by_code[codes[k]]);
+        if (by_code[codes[k]] == 0) return 1;
     }
     printf("\n");
     return 0;
