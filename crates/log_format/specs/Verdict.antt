@@ -157,7 +157,7 @@ setUp s seeds st =
 abbrev pub unlessRefusedBy : Refusal → ℕ → Running → Step
 unlessRefusedBy r blocks x = cond (eqb (refusalNumber r) 0) (on x) (over (refusedAfter (model r) blocks))
 
--- block 0: set-up with its setting and seeds, refusals 1 to 5
+-- block 0: set-up with its setting and seeds, refusals 1 to 5 and 16
 unfoldable pub judgeStart : Policy → Running → List ℕ → Step
 judgeStart p x s =
     unlessRefusedBy (setupRefusal (p .limits) (settingIn s) (seedsIn s) (x .state)) 0 (setUp (settingIn s) (seedsIn s) (x .state))
