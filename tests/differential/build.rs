@@ -1,14 +1,19 @@
-//! Links the static library whose path stands in THROTTLE_ARCHIVE.
+//! Links the static libraries of the throttle, of the log writer and of the
+//! planner, whose paths stand in THROTTLE_ARCHIVE, LOG_ARCHIVE and PLAN_ARCHIVE.
 
 use std::path::PathBuf;
 use std::{env, fs};
 
 fn main() {
-    println!("cargo:rerun-if-env-changed=THROTTLE_ARCHIVE");
-    let archive = env::var("THROTTLE_ARCHIVE").expect("THROTTLE_ARCHIVE is the library's path");
-    println!("cargo:rerun-if-changed={archive}");
     let directory = PathBuf::from(env::var("OUT_DIR").expect("set by cargo"));
-    fs::copy(&archive, directory.join("libthrottle.a")).expect("the library can be read");
     println!("cargo:rustc-link-search=native={}", directory.display());
-    println!("cargo:rustc-link-lib=static=throttle");
+    for name in ["throttle", "log", "plan"] {
+        let variable = format!("{}_ARCHIVE", name.to_uppercase());
+        println!("cargo:rerun-if-env-changed={variable}");
+        let archive = env::var(&variable).unwrap_or_else(|_| panic!("{variable} is not set"));
+        println!("cargo:rerun-if-changed={archive}");
+        let copy = directory.join(format!("lib{name}.a"));
+        fs::copy(&archive, copy).expect("the library can be read");
+        println!("cargo:rustc-link-lib=static={name}");
+    }
 }

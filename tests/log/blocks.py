@@ -7,6 +7,8 @@ BLOCK = 512
 RECORD = 24
 RECORDS = 20
 BODY = 8
+# The byte of the profile mark in block 0, the first one after nine numbers and 64 seeds.
+MARK = 172
 SUMS = 508
 MODULUS = 65_521
 
@@ -55,15 +57,16 @@ def block(number, count, body):
     return sealed((head + body).ljust(BLOCK, b"\0"))
 
 
-def start(setting=S, seeds=None):
+def start(setting=S, seeds=None, mark=0):
     """Block 0."""
     words = house_seeds() if seeds is None else seeds
-    return block(0, 0, b"".join(little(x, 4) for x in setting) + b"".join(little(x, 2) for x in words))
+    numbers = b"".join(little(x, 4) for x in setting) + b"".join(little(x, 2) for x in words)
+    return block(0, 0, numbers + little(mark, 1))
 
 
-def log(records, setting=S, seeds=None, size=RECORDS):
+def log(records, setting=S, seeds=None, size=RECORDS, mark=0):
     """A log of these records, `size` to a block."""
-    blocks = [start(setting, seeds)]
+    blocks = [start(setting, seeds, mark)]
     for first in range(0, len(records), size):
         part = records[first:first + size]
         blocks.append(block(len(blocks), len(part), b"".join(part)))

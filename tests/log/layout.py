@@ -2,8 +2,8 @@
 
 import itertools
 
-from blocks import (BLOCK, BODY, MODULUS, RECORD, S, SUMS, block, done, house_seeds, little, log, patched, place_of,
-                    record, split, start, sums, with_field)
+from blocks import (BLOCK, BODY, MARK, MODULUS, RECORD, S, SUMS, block, done, house_seeds, little, log, patched,
+                    place_of, record, split, start, sums, with_field)
 from records import pairs
 
 # Only a sum of at most 14 can be raised by 65,521 within 16 bits. The sums of this log's block 1 are 2 and 6.
@@ -82,7 +82,7 @@ def kept_sums(corpus, base):
 
 def padding(corpus, base):
     """Every byte that has to be zero is 1, in block 0 and in a block of four records."""
-    places = [*range(5, 8), *range(172, SUMS), *range(BLOCK + 5, BLOCK + 8)]
+    places = [*range(5, 8), *range(MARK + 1, SUMS), *range(BLOCK + 5, BLOCK + 8)]
     places += [place_of(k, "zeros") + i for k in range(4) for i in (0, 1)]
     places += range(place_of(4, "tick"), BLOCK + SUMS)
     for at in places:

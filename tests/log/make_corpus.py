@@ -5,7 +5,8 @@
 
 DIRECTORY gets a file for each log, NAME.log; logs that were there are removed. LOG_MAKER is the
 program second_log of tests/second, which writes faithful logs. The files are the same for each
-run. What a checker has to report on them is not decided here.
+run. What a checker has to report is decided here only of the logs about the profile mark: their
+reports stand beside them, NAME.expected.
 """
 
 import pathlib
@@ -17,6 +18,7 @@ sys.dont_write_bytecode = True
 import damaged
 import in_flight
 import layout
+import profile_mark
 import records
 import rounding
 import settings
@@ -40,17 +42,23 @@ class Corpus:
         self.maker = maker
         self.names = set()
         self.directory.mkdir(parents=True, exist_ok=True)
-        for old in self.directory.glob("*.log"):
+        for old in [*self.directory.glob("*.log"), *self.directory.glob("*.expected")]:
             old.unlink()
 
-    def add(self, name, data):
+    def add(self, name, data, report=None):
+        """Adds a log, and the report that it must get if that is given."""
         if name in self.names:
             raise ValueError(f"two logs have the name {name}")
         self.names.add(name)
         (self.directory / f"{name}.log").write_bytes(data)
+        if report is not None:
+            (self.directory / f"{name}.expected").write_text(report, encoding="ascii")
 
     def faithful(self, style, seed, count, first, setting, keys=0, more=()):
-        """A log in which every record is the rules' own answer, or that of an old rule which `more` names; see LOG_MAKER."""
+        """A log in which every record is the rules' own answer, or that of an old rule which `more` names; see LOG_MAKER.
+
+        A tenth number of the setting is its profile mark.
+        """
         words = [self.maker, style, *(str(x) for x in (seed, count, first, keys, *setting)), *more]
         return subprocess.run(words, check=True, stdout=subprocess.PIPE).stdout
 
@@ -101,6 +109,7 @@ def main():
     records.add_to(corpus, bases)
     rounding.add_to(corpus)
     in_flight.add_to(corpus)
+    profile_mark.add_to(corpus, {"several": SEVERAL, "blacklisting": BLACKLISTING}, {"chip": CHIP, "most": MOST})
     layout.add_to(corpus, log(four()))
     damaged.add_to(corpus, {"four": log(four()), **bases})
     print(f"{len(corpus.names)} logs in {corpus.directory}")

@@ -1,4 +1,4 @@
-"""Logs whose setting is refused, or stands at a bound: refusals 1 to 5."""
+"""Logs whose setting is refused, or stands at a bound: refusals 1 to 5. The profile mark is 0 in all of them."""
 
 import random
 

@@ -5,6 +5,7 @@ use crate::call::{Call, Kind};
 use crate::numbers::Numbers;
 use crate::settings::{BANKS, THREADS, W};
 use crate::side::Side;
+use second::Setting;
 use std::collections::HashMap;
 
 /// The row that is hammered.
@@ -31,7 +32,7 @@ pub struct Plan {
 }
 
 /// Carries out a plan after a set-up and returns the ticks of all activations.
-pub fn hammer(side: &mut impl Side, setting: &[u64; 9], plan: &Plan) -> Vec<u64> {
+pub fn hammer(side: &mut impl Side, setting: &Setting, plan: &Plan) -> Vec<u64> {
     let number = side.call(&Call::SETUP).number;
     assert_eq!(number, 0, "set-up of {setting:?}");
     let mut opened = Vec::new();
@@ -55,7 +56,7 @@ pub fn hammer(side: &mut impl Side, setting: &[u64; 9], plan: &Plan) -> Vec<u64>
 /// times after a pause. Returns the most activations of one row in W ticks.
 pub fn hammer_at_random(
     side: &mut impl Side,
-    setting: &[u64; 9],
+    setting: &Setting,
     numbers: &mut Numbers,
     calls: u64,
 ) -> usize {
@@ -89,7 +90,7 @@ pub fn hammer_at_random(
 
 /// Requests a row for one thread after the other until one isn't held by its
 /// quota, and reports an activation done at once.
-fn ask(side: &mut impl Side, setting: &[u64; 9], tick: u64, bank: u64, row: u16) -> Reply {
+fn ask(side: &mut impl Side, setting: &Setting, tick: u64, bank: u64, row: u16) -> Reply {
     for thread in 0..setting[THREADS] {
         let mut call = Call {
             kind: Kind::Request,
@@ -119,7 +120,7 @@ fn ask(side: &mut impl Side, setting: &[u64; 9], tick: u64, bank: u64, row: u16)
 }
 
 /// The first tick of the next epoch.
-fn next_turn(setting: &[u64; 9], tick: u64) -> u64 {
+fn next_turn(setting: &Setting, tick: u64) -> u64 {
     let epoch = setting[W] / 2;
     (tick / epoch + 1) * epoch
 }

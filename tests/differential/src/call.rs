@@ -12,12 +12,13 @@ pub enum Kind {
 impl Kind {
     pub const ALL: [Kind; 4] = [Kind::Setup, Kind::Request, Kind::Done, Kind::Index];
 
-    /// The greatest refusal number of this call.
-    pub fn last_refusal(self) -> usize {
+    /// What this call can return, in the order of the tests.
+    pub fn numbers(self) -> &'static [usize] {
+        let done = &[0, 1, 2, 3, 4, 5, 16, 6, 7, 8, 9, 10];
         match self {
-            Kind::Setup => 6,
-            Kind::Request | Kind::Index => 9,
-            Kind::Done => 10,
+            Kind::Setup => &done[..8],
+            Kind::Request | Kind::Index => &done[..11],
+            Kind::Done => done,
         }
     }
 }

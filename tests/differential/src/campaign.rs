@@ -5,15 +5,16 @@ use crate::call::{Call, Kind};
 use crate::contents::{fill_any, fill_near, in_flight_cells, lent};
 use crate::numbers::Numbers;
 use crate::pair::{Difference, Pair};
+use crate::profiles::near;
 use crate::settings::{at_bounds, large, medium, mixed, odd_seeds, seeds, small, THREADS, W};
 use crate::tally::{Counters, Standing, Tally};
 use crate::walk::Walk;
 use second::filter::hash;
-use second::{Fault, State};
+use second::{Fault, Setting, State};
 
 pub struct Campaign {
     seed: u64,
-    bounds: Vec<[u64; 9]>,
+    bounds: Vec<Setting>,
 }
 
 impl Campaign {
@@ -35,7 +36,7 @@ impl Campaign {
         let mut numbers = Numbers::new(self.seed ^ run.wrapping_mul(0xD134_2543_DE82_EF95));
         let (setting, seeds) = self.setting(run, &mut numbers);
         let calls = match run % 16 {
-            0..=9 => 60,
+            0..=8 => 60,
             10 | 11 => 6,
             _ => 25,
         };
@@ -58,10 +59,12 @@ impl Campaign {
     }
 
     /// The setting and seeds of a run: mostly small; every eighth run stands
-    /// at a bound, first each of the list, then any.
-    fn setting(&self, run: u64, numbers: &mut Numbers) -> ([u64; 9], Vec<u16>) {
+    /// at a bound, first each of the list, then any; every sixteenth is near the
+    /// limits of the small profile.
+    fn setting(&self, run: u64, numbers: &mut Numbers) -> (Setting, Vec<u16>) {
         let setting = match run % 16 {
-            0..=6 | 8..=12 => small(numbers),
+            0..=6 | 8 | 10..=12 => small(numbers),
+            9 => near(numbers),
             13 => medium(numbers),
             14 => large(numbers),
             _ => match self.bounds.get((run / 8) as usize) {
@@ -82,7 +85,7 @@ impl Campaign {
 fn fill(
     run: u64,
     numbers: &mut Numbers,
-    setting: &[u64; 9],
+    setting: &Setting,
     seeds: &[u16],
     rows: &[u16],
     state: &mut State,
@@ -115,6 +118,8 @@ fn step(
     let answer = pair.call(call)?;
     walk.note(call, &answer);
     tally.note(pair.setting(), call, &answer, before, head(pair), &thread);
+    let with_mark_0 = || pair.with_mark_0(call);
+    tally.marks.note(pair.setting(), answer.number, with_mark_0);
     if call.kind == Kind::Request && answer.number == 0 {
         tally.note_left(pair.setting(), &answer, before[0], &counters(pair, call));
     }

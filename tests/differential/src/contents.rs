@@ -5,11 +5,11 @@ use crate::numbers::Numbers;
 use crate::settings::{history, BANKS, L, N, Q, TD, TFAW, THREADS, TRC, W};
 use second::filter::hash;
 use second::state::{BANK, LAST, PLACE, RANK};
-use second::State;
+use second::{Setting, State};
 
 /// Cleared memory for a setting, accepted or not: as long as it uses, or, in
 /// some cases, with buffers longer or one cell short.
-pub fn lent(numbers: &mut Numbers, setting: &[u64; 9]) -> State {
+pub fn lent(numbers: &mut Numbers, setting: &Setting) -> State {
     let banks = setting[BANKS].min(16) as usize;
     let threads = setting[THREADS].min(32) as usize;
     let (ticks, rows) = (history(setting), history(setting));
@@ -52,7 +52,7 @@ fn lengths_to_cut() -> [[bool; 4]; 5] {
 /// Fills memory with any bits. In half of the cases each, the history place is
 /// below H, no kept tick is after the last, and all but a few history ticks
 /// are none, so that every part of refusal 7 decides at times.
-pub fn fill_any(numbers: &mut Numbers, setting: &[u64; 9], state: &mut State) {
+pub fn fill_any(numbers: &mut Numbers, setting: &Setting, state: &mut State) {
     state.head.fill_with(|| numbers.word());
     state.counters.fill_with(|| numbers.word() as u16);
     state.ticks.fill_with(|| numbers.word());
@@ -88,7 +88,7 @@ fn chain(numbers: &mut Numbers, ticks: &mut [u64]) {
 /// in eight. The rows are those the calls will ask for.
 pub fn fill_near(
     numbers: &mut Numbers,
-    setting: &[u64; 9],
+    setting: &Setting,
     seeds: &[u16],
     rows: &[u16],
     state: &mut State,
@@ -114,7 +114,7 @@ pub fn fill_near(
 }
 
 /// A last tick: early, near an epoch turn, around 2^62, around 2^64 - 1 or any.
-fn last_tick(numbers: &mut Numbers, setting: &[u64; 9]) -> u64 {
+fn last_tick(numbers: &mut Numbers, setting: &Setting) -> u64 {
     let w = setting[W].clamp(2, 1 << 30);
     match numbers.within(0, 16) {
         0 => (1 << 62) - 1 - numbers.within(0, 3),
@@ -131,7 +131,7 @@ fn last_tick(numbers: &mut Numbers, setting: &[u64; 9]) -> u64 {
 
 /// A stored tick that is none or not after the last tick, often near the end
 /// of one of the gaps.
-fn kept(numbers: &mut Numbers, setting: &[u64; 9], last: u64) -> u64 {
+fn kept(numbers: &mut Numbers, setting: &Setting, last: u64) -> u64 {
     let near = numbers.within(0, 2);
     let gap = match numbers.within(0, 11) {
         0 => return 0,
@@ -148,7 +148,7 @@ fn kept(numbers: &mut Numbers, setting: &[u64; 9], last: u64) -> u64 {
 
 /// A history whose stored ticks fall when read back, with rows that the calls
 /// will ask for, in banks of the setting and one outside.
-fn fill_history(numbers: &mut Numbers, setting: &[u64; 9], rows: &[u16], state: &mut State) {
+fn fill_history(numbers: &mut Numbers, setting: &Setting, rows: &[u16], state: &mut State) {
     let h = history(setting);
     let last = state.head[LAST];
     let between = below(numbers, h);
@@ -171,7 +171,7 @@ fn below(numbers: &mut Numbers, end: usize) -> usize {
 }
 
 /// Filter counters below, at and above N.
-fn fill_counters(numbers: &mut Numbers, setting: &[u64; 9], state: &mut State) {
+fn fill_counters(numbers: &mut Numbers, setting: &Setting, state: &mut State) {
     let n = setting[N].min(65_535);
     let style = numbers.within(0, 4);
     state.counters.fill_with(|| match style {
@@ -187,7 +187,7 @@ fn fill_counters(numbers: &mut Numbers, setting: &[u64; 9], state: &mut State) {
 /// the four is around N, the others are not below it.
 fn stand_near_n(
     numbers: &mut Numbers,
-    setting: &[u64; 9],
+    setting: &Setting,
     seeds: &[u16],
     rows: &[u16],
     state: &mut State,
@@ -209,7 +209,7 @@ fn stand_near_n(
 
 /// Index counters below, at and above D, and the requests in flight of each
 /// thread.
-fn fill_threads(numbers: &mut Numbers, setting: &[u64; 9], state: &mut State) {
+fn fill_threads(numbers: &mut Numbers, setting: &Setting, state: &mut State) {
     let d = top_of_index(setting) as u32;
     state.threads.fill_with(|| match numbers.within(0, 7) {
         0 => d,
@@ -228,13 +228,13 @@ fn fill_threads(numbers: &mut Numbers, setting: &[u64; 9], state: &mut State) {
 }
 
 /// D, for a setting that is not accepted any number up to 2^24.
-fn top_of_index(setting: &[u64; 9]) -> u64 {
+fn top_of_index(setting: &Setting) -> u64 {
     setting[L].min(1 << 24).saturating_sub(setting[N])
 }
 
 /// The cells of a thread's requests in flight, bank by bank, as far as the
 /// buffer has them; none of a thread outside the setting.
-pub fn in_flight_cells(setting: &[u64; 9], thread: u64, length: usize) -> Vec<usize> {
+pub fn in_flight_cells(setting: &Setting, thread: u64, length: usize) -> Vec<usize> {
     let threads = setting[THREADS].min(32);
     let banks = if thread < threads {
         setting[BANKS].min(16)
@@ -250,7 +250,7 @@ pub fn in_flight_cells(setting: &[u64; 9], thread: u64, length: usize) -> Vec<us
 /// Requests in flight of a thread, spread over the banks: few, around Q, or as
 /// many as the quota where its rounding decides; or any numbers. In one case of
 /// eight the sum is greater by 2^32, so that it is small in 32 bits only.
-fn fill_in_flight(numbers: &mut Numbers, setting: &[u64; 9], cells: &[usize], threads: &mut [u32]) {
+fn fill_in_flight(numbers: &mut Numbers, setting: &Setting, cells: &[usize], threads: &mut [u32]) {
     let q = setting[Q].clamp(1, 256);
     let total = match numbers.within(0, 9) {
         0..=4 => numbers.within(0, 2),
@@ -298,7 +298,7 @@ fn stand_at_half(
 }
 
 /// Makes one change that refusal 7 is about, or that lies next to it.
-fn spoil(numbers: &mut Numbers, setting: &[u64; 9], state: &mut State) {
+fn spoil(numbers: &mut Numbers, setting: &Setting, state: &mut State) {
     let h = history(setting);
     let after = state.head[LAST].saturating_add(numbers.within(1, 2));
     let banks = setting[BANKS].clamp(1, 16);

@@ -97,7 +97,7 @@ fn ask(
         rows: vec![0; 4],
         threads: vec![0; 3],
     };
-    let setting = [WINDOW, 1, 64, n, 64, 1 << 24, 255, 1, 1];
+    let setting = [WINDOW, 1, 64, n, 64, 1 << 24, 255, 1, 1, 0];
     let call = Call {
         kind: Kind::Request,
         tick,

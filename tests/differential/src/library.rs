@@ -1,7 +1,9 @@
-//! The four calls of the static library, as include/throttle.h declares them.
+//! The four calls of the throttle's archive, as include/throttle.h declares
+//! them, block 0 of the log writer (include/throttle_log.h) and the planner
+//! (include/throttle_plan.h).
 
 use crate::call::{Call, Kind};
-use crate::memory::Memory;
+use crate::memory::{Guarded, Memory};
 
 extern "C" {
     fn throttle_setup(
@@ -75,6 +77,15 @@ extern "C" {
         thread: u64,
         out: *mut u64,
     ) -> u32;
+
+    fn throttle_log_start(
+        setting: *const u64,
+        seeds: *const u16,
+        seeds_len: usize,
+        block: *mut u8,
+    ) -> u32;
+
+    fn throttle_delays(setting: *const u64, out: *mut u64) -> u32;
 }
 
 /// Calls a function of the library on the memory, with further arguments.
@@ -118,4 +129,25 @@ pub fn call(memory: &mut Memory, call: &Call) -> u32 {
         Kind::Done => lend!(throttle_done, memory, tick, bank, thread),
         Kind::Index => lend!(throttle_index, memory, tick, bank, thread, out),
     }
+}
+
+/// Writes block 0 of a log; the setting has ten words and the block 512 bytes.
+pub fn log_start(setting: &Guarded<u64>, seeds: &Guarded<u16>, block: &mut Guarded<u8>) -> u32 {
+    assert_eq!((setting.cells().len(), block.cells().len()), (10, 512));
+    // The pointers are those of live, separate buffers of these lengths.
+    unsafe {
+        throttle_log_start(
+            setting.cells().as_ptr(),
+            seeds.cells().as_ptr(),
+            seeds.cells().len(),
+            block.cells_mut().as_mut_ptr(),
+        )
+    }
+}
+
+/// The delays of a setting of ten words; out has two.
+pub fn delays(setting: &Guarded<u64>, out: &mut Guarded<u64>) -> u32 {
+    assert_eq!((setting.cells().len(), out.cells().len()), (10, 2));
+    // The pointers are those of live, separate buffers of these lengths.
+    unsafe { throttle_delays(setting.cells().as_ptr(), out.cells_mut().as_mut_ptr()) }
 }

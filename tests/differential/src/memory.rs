@@ -1,7 +1,7 @@
 //! Memory lent to the library, with guard cells before and after every
 //! buffer, the setting and the seeds included.
 
-use second::State;
+use second::{Setting, State};
 
 /// Guard cells on each side of a buffer.
 const GUARDS: usize = 8;
@@ -9,6 +9,10 @@ const GUARDS: usize = 8;
 /// A cell with the value its guards hold.
 pub trait Cell: Copy + PartialEq {
     const GUARD: Self;
+}
+
+impl Cell for u8 {
+    const GUARD: Self = 0xA5;
 }
 
 impl Cell for u16 {
@@ -66,7 +70,7 @@ pub struct Memory {
 
 impl Memory {
     /// A copy of this setting and state.
-    pub fn new(setting: &[u64; 9], seeds: &[u16], state: &State) -> Self {
+    pub fn new(setting: &Setting, seeds: &[u16], state: &State) -> Self {
         Memory {
             setting: Guarded::new(setting),
             seeds: Guarded::new(seeds),

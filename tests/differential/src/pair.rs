@@ -3,14 +3,15 @@
 
 use crate::call::{Answer, Call};
 use crate::memory::{Cell, Memory};
+use crate::settings::MARK;
 use crate::side::{Library, Second, Side};
-use second::{Fault, State};
+use second::{Fault, Setting, State};
 use std::fmt::Debug;
 
 /// The first thing in which the two differ.
 #[derive(Debug)]
 pub struct Difference {
-    pub setting: [u64; 9],
+    pub setting: Setting,
     pub call: Call,
     /// Head before the call.
     pub head: Vec<u64>,
@@ -27,7 +28,7 @@ pub struct Pair {
 impl Pair {
     /// Both start with this state; the fault is that of the second
     /// implementation.
-    pub fn new(setting: [u64; 9], seeds: Vec<u16>, state: State, fault: Fault) -> Self {
+    pub fn new(setting: Setting, seeds: Vec<u16>, state: State, fault: Fault) -> Self {
         Pair {
             library: Library::new(&setting, &seeds, &state),
             second: Second {
@@ -39,8 +40,21 @@ impl Pair {
         }
     }
 
-    pub fn setting(&self) -> &[u64; 9] {
+    pub fn setting(&self) -> &Setting {
         &self.second.setting
+    }
+
+    /// The number that a call would get with mark 0, by the second
+    /// implementation without a fault. Nothing is changed.
+    pub fn with_mark_0(&self, call: &Call) -> u32 {
+        let mut large = Second {
+            setting: self.second.setting,
+            seeds: self.second.seeds.clone(),
+            fault: Fault::None,
+            state: self.second.state.clone(),
+        };
+        large.setting[MARK] = 0;
+        large.call(call).number
     }
 
     /// The library's memory.

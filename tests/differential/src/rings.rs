@@ -145,7 +145,8 @@ fn ask(
         rows: vec![0; h],
         threads: vec![0; 3],
     };
-    let setting = [1 << 29, 1, 64, 1, 16 * h as u64, 1 << 24, 255, 1, 1];
+    let mark = u64::from(h <= 1_024);
+    let setting = [1 << 29, 1, 64, 1, 16 * h as u64, 1 << 24, 255, 1, 1, mark];
     let call = Call {
         kind: Kind::Index,
         tick: last,

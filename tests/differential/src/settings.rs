@@ -2,8 +2,9 @@
 //! those that stand at the bounds.
 
 use crate::numbers::Numbers;
+use crate::profiles::NO_PROFILE;
 use second::setting::{accept, history_length, house_seeds, row_bound};
-use second::Config;
+use second::{Config, Setting};
 
 /// A field of the setting by its place.
 pub const W: usize = 0;
@@ -15,9 +16,10 @@ pub const L: usize = 5;
 pub const Q: usize = 6;
 pub const BANKS: usize = 7;
 pub const THREADS: usize = 8;
+pub const MARK: usize = 9;
 
 /// Least and greatest value of each field.
-const RANGES: [(u64, u64); 9] = [
+const RANGES: [(u64, u64); 10] = [
     (2, 1 << 30),
     (1, 65_535),
     (1, 65_535),
@@ -27,13 +29,15 @@ const RANGES: [(u64, u64); 9] = [
     (1, 255),
     (1, 16),
     (1, 32),
+    (0, 1),
 ];
 
-/// Accepted settings in which each field that can stands at its bounds.
-pub const BASES: [[u64; 9]; 8] = [
-    [40, 1, 4, 2, 6, 10, 4, 1, 1],
-    [4, 1, 1, 1, 2, 3, 1, 1, 1],
-    [256_000_000, 185, 140, 4_096, 31_065, 16_384, 255, 16, 8],
+/// Accepted settings in which each field that can stands at its bounds; those
+/// with mark 1 have four banks or 1,024 history places.
+pub const BASES: [Setting; 10] = [
+    [40, 1, 4, 2, 6, 10, 4, 1, 1, 0],
+    [4, 1, 1, 1, 2, 3, 1, 1, 1, 0],
+    [256_000_000, 185, 140, 4_096, 31_065, 16_384, 255, 16, 8, 0],
     [
         1 << 30,
         16_383,
@@ -44,31 +48,34 @@ pub const BASES: [[u64; 9]; 8] = [
         255,
         16,
         32,
+        0,
     ],
-    [1 << 30, 1, 1, 1, 65, 1 << 24, 7, 2, 3],
-    [1 << 20, 65_535, 64, 1, 65_536, 17, 9, 3, 5],
-    [1 << 30, 3, 65_535, 32_768, 65_535, 1 << 24, 255, 1, 32],
-    [6_000, 1, 3, 2, 3_000, 7, 3, 16, 1],
+    [1 << 30, 1, 1, 1, 65, 1 << 24, 7, 2, 3, 0],
+    [1 << 20, 65_535, 64, 1, 65_536, 17, 9, 3, 5, 0],
+    [1 << 30, 3, 65_535, 32_768, 65_535, 1 << 24, 255, 1, 32, 0],
+    [6_000, 1, 3, 2, 3_000, 7, 3, 16, 1, 0],
+    [4_000, 1, 4, 2, 1_024, 10, 4, 4, 2, 1],
+    [40, 1, 4, 2, 6, 10, 4, 4, 1, 1],
 ];
 
 /// Is this setting accepted, with any 64 seeds?
-pub fn accepted(setting: &[u64; 9]) -> bool {
+pub fn accepted(setting: &Setting) -> bool {
     accept(&Config::new(*setting, &[0; 64])).is_ok()
 }
 
 /// The row bound B, where it is defined.
-pub fn bound(setting: &[u64; 9]) -> Option<u64> {
+pub fn bound(setting: &Setting) -> Option<u64> {
     row_bound(&Config::new(*setting, &[])).map(|bound| bound as u64)
 }
 
 /// The history length H, for a setting that is not accepted 1 to 4,096.
-pub fn history(setting: &[u64; 9]) -> usize {
+pub fn history(setting: &Setting) -> usize {
     let length = history_length(&Config::new(*setting, &[]));
     length.map_or(4_096, |length| length.clamp(1, 4_096)) as usize
 }
 
-/// A small setting, nearly always accepted.
-pub fn small(numbers: &mut Numbers) -> [u64; 9] {
+/// A small setting, nearly always accepted by both profiles.
+pub fn small(numbers: &mut Numbers) -> Setting {
     let trc = numbers.within(1, 4);
     let n = numbers.within(1, 4);
     let w = 2 * (n * trc + numbers.within(1, 40));
@@ -80,12 +87,13 @@ pub fn small(numbers: &mut Numbers) -> [u64; 9] {
         numbers.within(1, 6)
     };
     let (banks, threads) = (numbers.within(1, 4), numbers.within(1, 3));
-    limited(numbers, [w, trc, tfaw, n, td, 1, q, banks, threads])
+    let mark = numbers.within(0, 1);
+    limited(numbers, [w, trc, tfaw, n, td, 1, q, banks, threads, mark])
 }
 
 /// A setting of medium size: wait ticks some thousands away, more banks and
 /// threads.
-pub fn medium(numbers: &mut Numbers) -> [u64; 9] {
+pub fn medium(numbers: &mut Numbers) -> Setting {
     let trc = numbers.within(1, 150);
     let n = numbers.within(1, 60);
     let w = 2 * (n * trc + numbers.within(trc, 12_000));
@@ -93,11 +101,12 @@ pub fn medium(numbers: &mut Numbers) -> [u64; 9] {
     let tfaw = numbers.within(td.div_ceil(1_024), 300);
     let q = numbers.within(1, 255);
     let (banks, threads) = (numbers.within(1, 16), numbers.within(1, 32));
-    limited(numbers, [w, trc, tfaw, n, td, 1, q, banks, threads])
+    let mark = u64::from(numbers.one_in(4));
+    limited(numbers, [w, trc, tfaw, n, td, 1, q, banks, threads, mark])
 }
 
 /// A large accepted setting: that of a chip, or any.
-pub fn large(numbers: &mut Numbers) -> [u64; 9] {
+pub fn large(numbers: &mut Numbers) -> Setting {
     if numbers.one_in(2) {
         return numbers.pick(&BASES[2..7]);
     }
@@ -107,8 +116,11 @@ pub fn large(numbers: &mut Numbers) -> [u64; 9] {
     let td = numbers.within(trc.max(64), (w / 2).max(trc.max(64)));
     let tfaw = numbers.within(td.div_ceil(1_024).min(65_535), 65_535);
     let (banks, threads) = (numbers.within(1, 16), numbers.within(1, 32));
-    let setting = limited(numbers, [w, trc, tfaw, n, td, 1, 255, banks, threads]);
-    if accepted(&setting) {
+    let setting = limited(numbers, [w, trc, tfaw, n, td, 1, 255, banks, threads, 0]);
+    let small = with(&setting, MARK, 1);
+    if accepted(&small) && numbers.one_in(2) {
+        small
+    } else if accepted(&setting) {
         setting
     } else {
         BASES[2]
@@ -116,7 +128,7 @@ pub fn large(numbers: &mut Numbers) -> [u64; 9] {
 }
 
 /// The setting with L at its row bound, somewhat above or just below.
-fn limited(numbers: &mut Numbers, mut setting: [u64; 9]) -> [u64; 9] {
+pub fn limited(numbers: &mut Numbers, mut setting: Setting) -> Setting {
     let spare = numbers.within(0, 16);
     let bound = bound(&setting).unwrap_or(1);
     setting[L] = match spare {
@@ -127,13 +139,15 @@ fn limited(numbers: &mut Numbers, mut setting: [u64; 9]) -> [u64; 9] {
     setting
 }
 
-/// Every base setting with one field at, next to and far from its bounds, and
-/// with the numbers of refusals 2 to 5 at and next to theirs.
-pub fn at_bounds() -> Vec<[u64; 9]> {
+/// Every base setting with both marks, and each of them with one field at, next
+/// to and far from its bounds, and with the numbers of refusals 2 to 5 and 16 at
+/// and next to theirs.
+pub fn at_bounds() -> Vec<Setting> {
     let mut settings = Vec::new();
-    for base in BASES {
+    let other = |base: &Setting| with(base, MARK, 1 - base[MARK]);
+    for base in BASES.iter().flat_map(|base| [*base, other(base)]) {
         settings.push(base);
-        for field in 0..9 {
+        for field in 0..10 {
             for value in edges(field) {
                 settings.push(with(&base, field, value));
             }
@@ -144,13 +158,13 @@ pub fn at_bounds() -> Vec<[u64; 9]> {
 }
 
 /// A base setting with one to three fields changed to values near bounds.
-pub fn mixed(numbers: &mut Numbers) -> [u64; 9] {
+pub fn mixed(numbers: &mut Numbers) -> Setting {
     let mut setting = numbers.pick(&BASES);
     if numbers.one_in(3) {
         setting = numbers.pick(&relations(&setting));
     }
     for _ in 0..numbers.within(1, 3) {
-        let field = numbers.within(0, 8) as usize;
+        let field = numbers.within(0, 9) as usize;
         setting[field] = numbers.pick(&edges(field));
     }
     setting
@@ -159,6 +173,9 @@ pub fn mixed(numbers: &mut Numbers) -> [u64; 9] {
 /// Values of a field around its bounds, and some that only 64 bits hold.
 fn edges(field: usize) -> Vec<u64> {
     let (low, high) = RANGES[field];
+    if field == MARK {
+        return [&[low, high], NO_PROFILE.as_slice()].concat();
+    }
     let mut values = vec![low - 1, low, low + 1, high - 1, high, high + 1, 0, high + 2];
     values.extend([
         1 << 16,
@@ -172,26 +189,28 @@ fn edges(field: usize) -> Vec<u64> {
 }
 
 /// The setting with one field changed.
-fn with(setting: &[u64; 9], field: usize, value: u64) -> [u64; 9] {
+fn with(setting: &Setting, field: usize, value: u64) -> Setting {
     let mut changed = *setting;
     changed[field] = value;
     changed
 }
 
-/// The setting with W, tD, tFAW or L at and next to the bounds of refusals 2
-/// to 5.
-fn relations(base: &[u64; 9]) -> Vec<[u64; 9]> {
+/// The setting with W, tD, tFAW, L or the banks at and next to the bounds of
+/// refusals 2 to 5 and 16.
+fn relations(base: &Setting) -> Vec<Setting> {
     let free = 2 * base[N] * base[TRC];
     let mut settings = Vec::new();
     for near in [0, 1, 2, 3, 4] {
         settings.push(with(base, W, (free + near).saturating_sub(2)));
-        for td in [base[TRC], base[W] / 2, 1_024 * base[TFAW]] {
+        for td in [base[TRC], base[W] / 2, 1_024 * base[TFAW], 256 * base[TFAW]] {
             settings.push(with(base, TD, (td + near).saturating_sub(2)));
             let wide = with(base, TD, (td + near).saturating_sub(2));
             settings.push(with(&wide, L, 1 << 24));
         }
-        let short = base[TD].div_ceil(1_024);
-        settings.push(with(base, TFAW, (short + near).saturating_sub(2)));
+        for short in [base[TD].div_ceil(1_024), base[TD].div_ceil(256)] {
+            settings.push(with(base, TFAW, (short + near).saturating_sub(2)));
+        }
+        settings.push(with(base, BANKS, 2 + near));
         if let Some(bound) = bound(base) {
             settings.push(with(base, L, (bound + near).saturating_sub(2)));
         }

@@ -4,7 +4,7 @@
 use crate::call::{Answer, Call, Kind};
 use crate::library;
 use crate::memory::Memory;
-use second::{done, index, request, setup, Config, Fault, State};
+use second::{done, index, request, setup, Config, Fault, Setting, State};
 
 /// What out holds before a call.
 const OUT: [u64; 3] = [0x1111_2222, 0x3333_4444, 0x5555_6666];
@@ -12,6 +12,9 @@ const OUT: [u64; 3] = [0x1111_2222, 0x3333_4444, 0x5555_6666];
 /// Something that answers the four calls.
 pub trait Side {
     fn call(&mut self, call: &Call) -> Answer;
+
+    /// A copy of its memory.
+    fn state(&self) -> State;
 }
 
 /// The compiled library.
@@ -20,7 +23,7 @@ pub struct Library {
 }
 
 impl Library {
-    pub fn new(setting: &[u64; 9], seeds: &[u16], state: &State) -> Self {
+    pub fn new(setting: &Setting, seeds: &[u16], state: &State) -> Self {
         Library {
             memory: Memory::new(setting, seeds, state),
         }
@@ -35,11 +38,23 @@ impl Side for Library {
         out.copy_from_slice(self.memory.out.cells());
         Answer { number, out }
     }
+
+    fn state(&self) -> State {
+        let mut head = [0; 22];
+        head.copy_from_slice(self.memory.head.cells());
+        State {
+            head,
+            counters: self.memory.counters.cells().to_vec(),
+            ticks: self.memory.ticks.cells().to_vec(),
+            rows: self.memory.rows.cells().to_vec(),
+            threads: self.memory.threads.cells().to_vec(),
+        }
+    }
 }
 
 /// The second implementation, with a fault or without.
 pub struct Second {
-    pub setting: [u64; 9],
+    pub setting: Setting,
     pub seeds: Vec<u16>,
     pub fault: Fault,
     pub state: State,
@@ -58,5 +73,9 @@ impl Side for Second {
             Kind::Index => index(&config, state, tick, bank, thread, &mut out),
         };
         Answer { number, out }
+    }
+
+    fn state(&self) -> State {
+        self.state.clone()
     }
 }

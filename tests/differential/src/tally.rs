@@ -2,7 +2,9 @@
 //! that are easy to miss.
 
 use crate::call::{Answer, Call, Kind};
+use crate::mark_tally::MarkTally;
 use crate::settings::{L, N, Q, W};
+use second::Setting;
 use std::cmp::Ordering;
 use std::fmt;
 
@@ -39,17 +41,18 @@ const EVENTS: [&str; 26] = [
 const LEFT: usize = 15;
 
 /// Least number of times that each refusal, answer and event is reached.
-const LEAST: u64 = 20;
+pub const LEAST: u64 = 20;
 
 #[derive(Default)]
 pub struct Tally {
     pub scenarios: u64,
     pub calls: u64,
     /// By call and number returned.
-    numbers: [[u64; 11]; 4],
+    numbers: [[u64; 17]; 4],
     /// Requests by answer.
     answers: [u64; 5],
     events: [u64; 26],
+    pub marks: MarkTally,
 }
 
 /// What a call's thread has before the call.
@@ -75,7 +78,7 @@ impl Tally {
     /// history place, before and after it.
     pub fn note(
         &mut self,
-        setting: &[u64; 9],
+        setting: &Setting,
         call: &Call,
         answer: &Answer,
         before: [u64; 2],
@@ -120,7 +123,7 @@ impl Tally {
     /// flight as the whole number below Q x (D - min(c, D))/D, so that the quota
     /// holds the request where it is rounded down and not where it is rounded up;
     /// and one that the total over the banks decides.
-    fn note_quota(&mut self, setting: &[u64; 9], c: u64, thread: &Standing, held: bool) {
+    fn note_quota(&mut self, setting: &Setting, c: u64, thread: &Standing, held: bool) {
         let d = setting[L] - setting[N];
         let share = setting[Q] * (d - c.min(d));
         let (whole, rest) = (share / d, share % d);
@@ -151,7 +154,7 @@ impl Tally {
     /// find them shows. `last` is the last tick before the request.
     pub fn note_left(
         &mut self,
-        setting: &[u64; 9],
+        setting: &Setting,
         answer: &Answer,
         last: u64,
         counters: &Counters,
@@ -187,7 +190,7 @@ impl Tally {
     pub fn missed(&self) -> Vec<String> {
         let mut missed = Vec::new();
         for kind in Kind::ALL {
-            for number in 0..=kind.last_refusal() {
+            for &number in kind.numbers() {
                 if self.numbers[kind as usize][number] < LEAST {
                     missed.push(format!("{kind:?} returning {number}"));
                 }
@@ -203,6 +206,7 @@ impl Tally {
                 missed.push(name.to_string());
             }
         }
+        missed.extend(self.marks.missed());
         missed
     }
 }
@@ -211,12 +215,12 @@ impl fmt::Display for Tally {
     fn fmt(&self, f: &mut fmt::Formatter) -> fmt::Result {
         writeln!(f, "  {} calls in {} runs", self.calls, self.scenarios)?;
         write!(f, "  returned ")?;
-        for number in 0..=10 {
+        for number in Kind::Done.numbers() {
             write!(f, "{number:>8}")?;
         }
         for kind in Kind::ALL {
             write!(f, "\n  {:<9}", format!("{kind:?}").to_lowercase())?;
-            for number in 0..=10 {
+            for &number in Kind::Done.numbers() {
                 write!(f, "{:>8}", self.numbers[kind as usize][number])?;
             }
         }
@@ -230,6 +234,6 @@ impl fmt::Display for Tally {
         for (name, count) in EVENTS.iter().zip(self.events) {
             write!(f, "\n  {name}: {count}")?;
         }
-        Ok(())
+        write!(f, "{}", self.marks)
     }
 }

@@ -8,6 +8,7 @@ use crate::pair::Pair;
 use crate::settings::{history, BANKS, N, TD, TFAW, THREADS, TRC, W};
 use second::filter::hash;
 use second::state::{BANK, LAST, RANK};
+use second::Setting;
 
 /// The second implementation tries wait ticks one by one. Where the delay is
 /// longer than this, a request comes near the end of its row's delay.
@@ -97,7 +98,7 @@ impl Walk {
     }
 
     /// A tick that is mostly at or soon after the last one.
-    fn tick(&mut self, setting: &[u64; 9], pair: &Pair) -> u64 {
+    fn tick(&mut self, setting: &Setting, pair: &Pair) -> u64 {
         let head = pair.memory().head.cells();
         let last = head[LAST];
         let near = self.numbers.within(0, 2);
@@ -122,7 +123,7 @@ impl Walk {
     }
 
     /// A tick at or next to the end of a bank's or the rank's gap.
-    fn end_of_gap(&mut self, setting: &[u64; 9], head: &[u64], near: u64) -> u64 {
+    fn end_of_gap(&mut self, setting: &Setting, head: &[u64], near: u64) -> u64 {
         let (cell, gap) = if self.numbers.one_in(2) {
             (RANK + 3, setting[TFAW])
         } else {
@@ -149,7 +150,7 @@ impl Walk {
 
     /// Aims a done at a thread that has something in flight, if a few tries
     /// find one.
-    fn aim_at_in_flight(&mut self, setting: &[u64; 9], pair: &Pair, call: &mut Call) {
+    fn aim_at_in_flight(&mut self, setting: &Setting, pair: &Pair, call: &mut Call) {
         let threads = pair.memory().threads.cells();
         for _ in 0..8 {
             let bank = self.numbers.within(0, setting[BANKS].clamp(1, 16) - 1);
@@ -164,7 +165,7 @@ impl Walk {
 
     /// Moves a request near the end of its row's delay, or near an epoch turn
     /// that ends the wait, if it stands far before both.
-    fn shorten(&mut self, setting: &[u64; 9], pair: &Pair, call: &mut Call) {
+    fn shorten(&mut self, setting: &Setting, pair: &Pair, call: &mut Call) {
         let memory = pair.memory();
         let word = (call.bank % 65_536) as u32 * 65_536 + u32::from(call.row);
         let places = memory.ticks.cells().iter().zip(memory.rows.cells());
@@ -184,7 +185,7 @@ impl Walk {
 
     /// In one of two cases a tick shortly before the next epoch turn, if the
     /// row isn't blacklisted after it.
-    fn before_turn(&mut self, setting: &[u64; 9], pair: &Pair, call: &Call) -> Option<u64> {
+    fn before_turn(&mut self, setting: &Setting, pair: &Pair, call: &Call) -> Option<u64> {
         let memory = pair.memory();
         let (last, epoch) = (memory.head.cells()[LAST], setting[W] / 2);
         let seeds = memory.seeds.cells();

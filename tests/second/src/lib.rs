@@ -3,7 +3,8 @@
 //! comparison: every rule is spelled out the slow way, so that a reader can
 //! hold it against the text.
 //!
-//! - `setting`: the setting, its derived numbers and refusals 1 to 5
+//! - `setting`: the setting, its derived numbers and refusals 1 to 5 and 16
+//! - `profile`: the profile mark and what a profile has at most
 //! - `state`: the lent memory and refusals 6 and 7
 //! - `clock`: epochs and the clearing at an epoch turn
 //! - `filter`: the counting Bloom filters and the estimate they report
@@ -11,7 +12,9 @@
 //! - `left`: the openings left that a request reports
 //! - `quota`: the quota rule, the thread's total in flight and what a done takes
 //! - `model`: the four calls (set-up, request, done, index)
-//! - `log`: the log checker and an encoder for logs
+//! - `log`: the log checker
+//! - `write`: the log writer and an encoder for logs
+//! - `plan`: the planner, that is the delays with which a setting is accepted
 //! - `fault`: wrong behaviours that can be switched on, one at a time
 
 mod clock;
@@ -21,11 +24,14 @@ pub mod filter;
 mod left;
 pub mod log;
 pub mod model;
+pub mod plan;
+pub mod profile;
 pub mod quota;
 pub mod setting;
 pub mod state;
+pub mod write;
 
 pub use fault::Fault;
 pub use model::{done, index, request, setup};
-pub use setting::Config;
+pub use setting::{Config, Setting};
 pub use state::State;

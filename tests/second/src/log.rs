@@ -1,11 +1,11 @@
 //! The log checker: reads a log of 512-byte blocks, runs its records through
-//! the throttle and reports whether the log agrees with the rules. An encoder
-//! for logs stands at the end.
+//! the throttle and reports whether the log agrees with the rules.
 
 use crate::decision::OPENED;
 use crate::fault::Fault;
 use crate::model::{done, request, setup};
-use crate::setting::{accept, Config};
+use crate::profile::{LARGE, SMALL};
+use crate::setting::{accept, Config, Setting, MARK};
 use crate::state::State;
 use std::fmt;
 
@@ -16,9 +16,13 @@ pub const RECORDS: usize = 20;
 /// Bytes of a record.
 const RECORD: usize = 24;
 /// First byte of the body.
-const BODY: usize = 8;
+pub const BODY: usize = 8;
+/// First byte of the seeds, after nine numbers of 32 bits.
+pub const SEEDS: usize = BODY + 9 * 4;
+/// Byte of the profile mark, the first one after the 64 seeds.
+pub const MARK_BYTE: usize = SEEDS + 64 * 2;
 /// First byte of the two sums.
-const SUMS: usize = 508;
+pub const SUMS: usize = 508;
 
 /// What the checker prints.
 #[derive(Clone, Copy, Debug, PartialEq, Eq)]
@@ -81,7 +85,7 @@ impl Record {
         }
     }
 
-    fn write(&self) -> [u8; RECORD] {
+    pub fn write(&self) -> [u8; RECORD] {
         let mut bytes = [0; RECORD];
         bytes[0..8].copy_from_slice(&self.tick.to_le_bytes());
         bytes[8..16].copy_from_slice(&self.wait.to_le_bytes());
@@ -100,7 +104,7 @@ fn number(bytes: &[u8]) -> u64 {
 }
 
 /// The two sums over bytes 0 to 507, modulo 65,521.
-fn sums(block: &[u8]) -> [u64; 2] {
+pub fn sums(block: &[u8]) -> [u64; 2] {
     let mut sums = [0, 0];
     for (place, &byte) in block[..SUMS].iter().enumerate() {
         sums[0] += u64::from(byte);
@@ -111,7 +115,7 @@ fn sums(block: &[u8]) -> [u64; 2] {
 
 /// Refusals 11, 12 and 13 of a whole block; `previous` is the record count of
 /// the block before it.
-fn sound(block: &[u8], index: u64, previous: usize) -> Result<(), u32> {
+fn sound(block: &[u8], index: u64, previous: usize, fault: Fault) -> Result<(), u32> {
     if block.len() < BLOCK {
         return Err(11);
     }
@@ -121,7 +125,7 @@ fn sound(block: &[u8], index: u64, previous: usize) -> Result<(), u32> {
     let laid_out = number(&block[0..4]) == index
         && zeros(&block[5..8])
         && if index == 0 {
-            sound_setting(block)
+            sound_setting(block, fault)
         } else {
             sound_records(block)
         };
@@ -132,9 +136,39 @@ fn sound(block: &[u8], index: u64, previous: usize) -> Result<(), u32> {
     Ok(())
 }
 
-/// Block 0: count 0, and zeros after the nine numbers and 64 seeds.
-fn sound_setting(block: &[u8]) -> bool {
-    block[4] == 0 && zeros(&block[BODY + 9 * 4 + 64 * 2..SUMS])
+/// Block 0: count 0, a mark of 0 or 1 after the nine numbers and 64 seeds, and
+/// zeros after it.
+fn sound_setting(block: &[u8], fault: Fault) -> bool {
+    let place = mark_place(fault);
+    let rest = match fault {
+        Fault::LogByte173Free => place + 2..SUMS,
+        Fault::LogByte507Free => place + 1..SUMS - 1,
+        _ => place + 1..SUMS,
+    };
+    let before = MARK_BYTE.min(place)..place;
+    block[4] == 0 && sound_mark(block[place], fault) && zeros(&block[before]) && zeros(&block[rest])
+}
+
+/// The byte of the mark. Only a fault looks for it elsewhere.
+fn mark_place(fault: Fault) -> usize {
+    match fault {
+        Fault::LogMarkAt171 => MARK_BYTE - 1,
+        Fault::LogMarkAt173 => MARK_BYTE + 1,
+        _ => MARK_BYTE,
+    }
+}
+
+/// Is the mark that of a profile, as far as the layout is tested for it?
+fn sound_mark(mark: u8, fault: Fault) -> bool {
+    match fault {
+        Fault::LogMarkIsZero => mark == 0,
+        Fault::LogMarkIgnored
+        | Fault::LogMarkAboveIsLarge
+        | Fault::LogMarkAboveIsSmall
+        | Fault::LogMarkIsOne
+        | Fault::LogMarkAfterSetting => true,
+        _ => mark <= 1,
+    }
 }
 
 /// Later blocks: 1 to 20 sound records, and zeros after.
@@ -156,9 +190,39 @@ fn records(block: &[u8]) -> impl Iterator<Item = &[u8]> {
         .take(usize::from(block[4]))
 }
 
+/// The ten words of the setting that block 0 has.
+fn read_setting(block: &[u8], fault: Fault) -> Setting {
+    let mark = u64::from(block[mark_place(fault)]);
+    std::array::from_fn(|k| match (k, fault) {
+        (MARK, Fault::LogMarkIgnored | Fault::LogMarkNotUsed) => LARGE,
+        (MARK, Fault::LogMarkAboveIsLarge) if mark > SMALL => LARGE,
+        (MARK, Fault::LogMarkAboveIsSmall) if mark > SMALL => SMALL,
+        (MARK, _) => mark,
+        _ => number(&block[BODY + 4 * k..BODY + 4 * k + 4]),
+    })
+}
+
+/// The setting that set-up gets. Only a fault leaves a mark out.
+fn at_start(mut setting: Setting, fault: Fault) -> Setting {
+    match fault {
+        Fault::LogProfileAtRecords => setting[MARK] = LARGE,
+        Fault::LogMarkAfterSetting if setting[MARK] > SMALL => setting[MARK] = LARGE,
+        _ => {}
+    }
+    setting
+}
+
+/// The number that is reported of a refused setting. Only a fault changes it.
+fn told(number: u32, fault: Fault) -> u32 {
+    match number {
+        16 if fault == Fault::LogProfileIs13 => 13,
+        _ => number,
+    }
+}
+
 /// The run of a log: the setting, the throttle's memory, and the counts.
 struct Run {
-    setting: [u64; 9],
+    setting: Setting,
     seeds: Vec<u16>,
     fault: Fault,
     state: State,
@@ -169,16 +233,17 @@ struct Run {
 impl Run {
     /// Reads the setting of block 0 and sets the throttle up.
     fn start(block: &[u8], fault: Fault) -> Result<Self, u32> {
-        let setting = std::array::from_fn(|k| number(&block[BODY + 4 * k..BODY + 4 * k + 4]));
-        let words = block[BODY + 9 * 4..].chunks_exact(2).take(64);
+        let setting = read_setting(block, fault);
+        let words = block[SEEDS..].chunks_exact(2).take(64);
         let seeds: Vec<u16> = words.map(|word| number(word) as u16).collect();
         let config = Config {
-            setting,
+            setting: at_start(setting, fault),
             seeds: &seeds,
             fault,
         };
-        let mut state = State::cleared(&accept(&config)?);
+        let mut state = State::cleared(&accept(&config).map_err(|number| told(number, fault))?);
         match setup(&config, &mut state) {
+            0 if fault == Fault::LogMarkAfterSetting && setting[MARK] > SMALL => Err(13),
             0 => Ok(Run {
                 setting,
                 seeds,
@@ -252,53 +317,18 @@ pub fn check(log: &[u8], fault: Fault) -> Report {
     let Some((_, first)) = blocks.next() else {
         return refused(11, 0);
     };
-    let started = sound(first, 0, 0).and_then(|()| Run::start(first, fault));
+    let started = sound(first, 0, 0, fault).and_then(|()| Run::start(first, fault));
     let mut run = match started {
         Ok(run) => run,
         Err(number) => return refused(number, 0),
     };
     let mut previous = 0;
     for (index, block) in blocks {
-        match sound(block, index, previous).and_then(|()| run.judge_block(block)) {
+        match sound(block, index, previous, fault).and_then(|()| run.judge_block(block)) {
             Err(number) => return refused(number, index),
             Ok(Some(place)) => return run.report(Some((index, place))),
             Ok(None) => previous = usize::from(block[4]),
         }
     }
     run.report(None)
-}
-
-/// Writes the two sums of a block.
-pub fn seal(block: &mut [u8]) {
-    let [plain, weighted] = sums(block).map(|sum| (sum as u16).to_le_bytes());
-    block[508..510].copy_from_slice(&plain);
-    block[510..512].copy_from_slice(&weighted);
-}
-
-/// A sealed block with this number, record count and body.
-fn block(index: u32, count: u8, body: &[u8]) -> [u8; BLOCK] {
-    let mut block = [0; BLOCK];
-    block[0..4].copy_from_slice(&index.to_le_bytes());
-    block[4] = count;
-    block[BODY..BODY + body.len()].copy_from_slice(body);
-    seal(&mut block);
-    block
-}
-
-/// A log of this setting, its numbers cut to 32 bits, with up to 64 seeds and
-/// these records.
-pub fn encode(setting: &[u64; 9], seeds: &[u16], records: &[Record]) -> Vec<u8> {
-    let mut body = Vec::new();
-    for &field in setting {
-        body.extend((field as u32).to_le_bytes());
-    }
-    for &seed in seeds.iter().take(64) {
-        body.extend(seed.to_le_bytes());
-    }
-    let mut log = block(0, 0, &body).to_vec();
-    for (index, chunk) in (1..).zip(records.chunks(RECORDS)) {
-        let body: Vec<u8> = chunk.iter().flat_map(Record::write).collect();
-        log.extend(block(index, chunk.len() as u8, &body));
-    }
-    log
 }

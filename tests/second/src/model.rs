@@ -8,21 +8,34 @@ use crate::decision::{Call, OPENED, QUOTA, WAIT_BANK, WAIT_ROW};
 use crate::fault::Fault;
 use crate::filter::count;
 use crate::left::{held_back, left, too_early};
+use crate::profile::above_small;
 use crate::quota::{index_counter, none_in_flight, quota_in_test, take_in_flight};
-use crate::setting::{accept, Config, Rules};
+use crate::setting::{accept, accept_but_16, Config, Rules};
 use crate::state::{State, LAST};
+
+/// Which of the four calls.
+#[derive(Clone, Copy, PartialEq, Eq)]
+enum Kind {
+    Setup,
+    Request,
+    Done,
+    Index,
+}
 
 /// Set-up: clears the used parts of the lent memory and the head.
 pub fn setup(config: &Config, state: &mut State) -> u32 {
-    let rules = match accept(config) {
-        Ok(rules) => rules,
-        Err(number) => return number,
-    };
-    if state.too_short(&rules) {
-        return 6;
+    match lent(config, state, Kind::Setup) {
+        Ok(rules) => {
+            state.clear(&rules);
+            0
+        }
+        Err(number) => {
+            if config.fault == Fault::ProfileRefusalClears && number == 16 {
+                state.head = [0; 22];
+            }
+            number
+        }
     }
-    state.clear(&rules);
-    0
 }
 
 /// Request a row; `out` becomes the answer's number, the wait tick and the
@@ -36,7 +49,7 @@ pub fn request(
     row: u16,
     out: &mut [u64; 3],
 ) -> u32 {
-    let (rules, call) = match enter(config, state, tick, bank, thread) {
+    let (rules, call) = match enter(config, state, Kind::Request, tick, bank, thread) {
         Ok(entered) => entered,
         Err(number) => {
             if config.fault == Fault::CountsRefused && number == 9 {
@@ -72,7 +85,7 @@ pub fn request(
 /// Report a request done: takes 1 from in flight of the bank, and so from the
 /// thread's total.
 pub fn done(config: &Config, state: &mut State, tick: u64, bank: u64, thread: u64) -> u32 {
-    let (rules, call) = match enter(config, state, tick, bank, thread) {
+    let (rules, call) = match enter(config, state, Kind::Done, tick, bank, thread) {
         Ok(entered) => entered,
         Err(number) => return number,
     };
@@ -96,7 +109,7 @@ pub fn index(
     thread: u64,
     out: &mut [u64; 3],
 ) -> u32 {
-    let (rules, call) = match enter(config, state, tick, bank, thread) {
+    let (rules, call) = match enter(config, state, Kind::Index, tick, bank, thread) {
         Ok(entered) => entered,
         Err(number) => return number,
     };
@@ -119,18 +132,55 @@ pub fn index(
     0
 }
 
-/// Refusals 1 to 9 in their order.
+/// The refusals of the setting, 1 to 5 and 16, and 6, in their order.
+fn lent<'a>(config: &Config<'a>, state: &State, kind: Kind) -> Result<Rules<'a>, u32> {
+    let rules = if leaves_16_out(config.fault, kind) {
+        accept_but_16(config)?
+    } else {
+        accept(config)?
+    };
+    if state.too_short(&rules) {
+        return Err(6);
+    }
+    late_16(config, Fault::ProfileAfterSix)?;
+    if kind == Kind::Setup {
+        late_16(config, Fault::ProfileAfterSeven)?;
+        late_16(config, Fault::ProfileAfterNine)?;
+    }
+    Ok(rules)
+}
+
+/// Does a call test 16 later or never (only as a fault)?
+fn leaves_16_out(fault: Fault, kind: Kind) -> bool {
+    match fault {
+        Fault::ProfileAfterSix | Fault::ProfileAfterSeven | Fault::ProfileAfterNine => true,
+        Fault::ProfileInSetupOnly => kind != Kind::Setup,
+        Fault::ProfileNotInSetup => kind == Kind::Setup,
+        Fault::ProfileNotInRequest => kind == Kind::Request,
+        Fault::ProfileNotInDone => kind == Kind::Done,
+        Fault::ProfileNotInIndex => kind == Kind::Index,
+        _ => false,
+    }
+}
+
+/// Refusal 16 at the place where this fault tests it.
+fn late_16(config: &Config, fault: Fault) -> Result<(), u32> {
+    if config.fault == fault && above_small(config) {
+        return Err(16);
+    }
+    Ok(())
+}
+
+/// The refusals of the setting and 6 to 9, in their order.
 fn enter<'a>(
     config: &Config<'a>,
     state: &State,
+    kind: Kind,
     tick: u64,
     bank: u64,
     thread: u64,
 ) -> Result<(Rules<'a>, Call), u32> {
-    let rules = accept(config)?;
-    if state.too_short(&rules) {
-        return Err(6);
-    }
+    let rules = lent(config, state, kind)?;
     let outside = bank >= rules.banks as u64 || thread >= rules.threads as u64;
     if rules.has(Fault::EightBeforeSeven) && outside {
         return Err(8);
@@ -138,12 +188,14 @@ fn enter<'a>(
     if state.unsound(&rules) {
         return Err(7);
     }
+    late_16(config, Fault::ProfileAfterSeven)?;
     if outside {
         return Err(8);
     }
     if tick_refused(&rules, state, tick) {
         return Err(9);
     }
+    late_16(config, Fault::ProfileAfterNine)?;
     Ok((
         rules,
         Call {

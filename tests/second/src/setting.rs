@@ -1,20 +1,33 @@
-//! The setting of the throttle: its nine numbers and 64 seeds, the numbers
-//! derived from it (history length H, row bound B) and refusals 1 to 5.
+//! The setting of the throttle: its ten words and 64 seeds, the numbers derived
+//! from it (history length H, row bound B) and its refusals, 1 to 5 and 16.
 
 use crate::fault::Fault;
+use crate::profile::{
+    above_small, is_small, mark_is_late, small_rules, unnamed, OF_LARGE, OF_SMALL,
+};
 
-/// The setting as the calling program hands it over: W, tRC, tFAW, N, tD, L,
-/// Q, banks, threads, and the seeds, function by function, bit 0 first.
+/// The words of a setting: W, tRC, tFAW, N, tD, L, Q, banks, threads and the
+/// profile mark.
+pub type Setting = [u64; 10];
+
+/// Some words by their places.
+pub const TFAW: usize = 2;
+pub const TD: usize = 4;
+pub const BANKS: usize = 7;
+pub const MARK: usize = 9;
+
+/// The setting as the calling program hands it over, and the seeds, function by
+/// function, bit 0 first.
 #[derive(Clone, Copy, Debug)]
 pub struct Config<'a> {
-    pub setting: [u64; 9],
+    pub setting: Setting,
     pub seeds: &'a [u16],
     pub fault: Fault,
 }
 
 impl<'a> Config<'a> {
     /// The plain specification on this setting.
-    pub fn new(setting: [u64; 9], seeds: &'a [u16]) -> Self {
+    pub fn new(setting: Setting, seeds: &'a [u16]) -> Self {
         Config {
             setting,
             seeds,
@@ -106,7 +119,11 @@ pub fn row_bound(config: &Config) -> Option<u128> {
 
 /// Every field in its range, and 64 seeds of 0 to 1,023.
 fn in_range(config: &Config) -> bool {
-    let [w, trc, tfaw, n, td, l, q, banks, threads] = config.setting;
+    let [w, trc, tfaw, n, td, l, q, banks, threads, _] = config.setting;
+    let most_banks = match config.fault {
+        Fault::ProfileBanksAreOne if is_small(config) => OF_SMALL.banks,
+        _ => OF_LARGE.banks,
+    };
     (2..=1 << 30).contains(&w)
         && w % 2 == 0
         && (1..=65_535).contains(&trc)
@@ -115,29 +132,68 @@ fn in_range(config: &Config) -> bool {
         && (1..=1 << 29).contains(&td)
         && (1..=1 << 24).contains(&l)
         && (1..=255).contains(&q)
-        && (1..=16).contains(&banks)
+        && (1..=most_banks).contains(&banks)
         && (1..=32).contains(&threads)
+        && (!unnamed(config) || mark_is_late(config.fault))
         && config.seeds.len() == 64
         && config.seeds.iter().all(|&seed| seed <= 1023)
 }
 
-/// The accepted setting, or the number of its refusal, 1 to 5.
+/// Refusal 4: more history places than any profile has.
+fn long_history(config: &Config) -> bool {
+    let most = match config.fault {
+        Fault::ProfileHistoryIsFour if is_small(config) => OF_SMALL.history,
+        _ => OF_LARGE.history,
+    };
+    history_length(config).is_none_or(|h| h > u128::from(most))
+}
+
+/// The refusals of the setting, in the order in which they are tested.
+fn order(fault: Fault) -> [u32; 6] {
+    match fault {
+        Fault::ProfileBeforeTwo => [1, 16, 2, 3, 4, 5],
+        Fault::ProfileBeforeFour => [1, 2, 3, 16, 4, 5],
+        Fault::ProfileBeforeFive => [1, 2, 3, 4, 16, 5],
+        _ => [1, 2, 3, 4, 5, 16],
+    }
+}
+
+/// Does the setting meet this refusal? Needs one that does not meet 1, but for
+/// refusal 1 itself.
+fn meets(config: &Config, number: u32) -> bool {
+    let [w, trc, _, _, td, l, ..] = config.setting;
+    match number {
+        1 => !in_range(config),
+        2 => free_ticks(config).is_none_or(|free| u128::from(w - 1) < free),
+        3 => td < trc || td > w / 2,
+        4 => long_history(config),
+        5 => row_bound(config).is_none_or(|bound| bound > u128::from(l)),
+        _ => above_small(config),
+    }
+}
+
+/// The accepted setting, or the number of its refusal: 1 to 5, then 16.
 pub fn accept<'a>(config: &Config<'a>) -> Result<Rules<'a>, u32> {
-    let [w, trc, tfaw, n, td, l, q, banks, threads] = config.setting;
-    if !in_range(config) {
-        return Err(1);
+    let met = |number: &u32| meets(config, *number);
+    match order(config.fault).into_iter().find(met) {
+        None => Ok(rules(config)),
+        Some(16) if config.fault == Fault::ProfileMarkAfterFive && unnamed(config) => Err(1),
+        Some(number) => Err(number),
     }
-    if free_ticks(config).is_none_or(|free| u128::from(w - 1) < free) {
-        return Err(2);
+}
+
+/// The same with 16 left out, for the faults that test it later or never.
+pub fn accept_but_16<'a>(config: &Config<'a>) -> Result<Rules<'a>, u32> {
+    match accept(config) {
+        Err(16) => Ok(rules(config)),
+        accepted => accepted,
     }
-    if td < trc || td > w / 2 {
-        return Err(3);
-    }
-    let h = history_length(config).filter(|&h| h <= 4096).ok_or(4u32)?;
-    if row_bound(config).is_none_or(|bound| bound > u128::from(l)) {
-        return Err(5);
-    }
-    Ok(Rules {
+}
+
+/// The rules of a setting that meets none of 1 to 5.
+fn rules<'a>(config: &Config<'a>) -> Rules<'a> {
+    let [w, trc, tfaw, n, td, l, q, banks, threads, _] = config.setting;
+    let rules = Rules {
         trc,
         tfaw,
         n,
@@ -146,9 +202,14 @@ pub fn accept<'a>(config: &Config<'a>) -> Result<Rules<'a>, u32> {
         banks: banks as usize,
         threads: threads as usize,
         epoch: w / 2,
-        h: h as usize,
+        h: history_length(config).map_or(0, |h| h as usize),
         d: l - n,
         seeds: config.seeds,
         fault: config.fault,
-    })
+    };
+    if is_small(config) {
+        small_rules(rules)
+    } else {
+        rules
+    }
 }

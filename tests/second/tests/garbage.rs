@@ -10,8 +10,9 @@ use second::{setup, Config, State};
 fn refusals_of_the_setting() {
     let seeds = house_seeds();
     let of = |field, value| refusal(s_with(&[(field, value)]), &seeds);
-    for field in 0..9 {
-        assert_eq!(of(field, 0), 1);
+    for field in 0..10 {
+        let least = if field == MARK { 0 } else { 1 };
+        assert_eq!(of(field, 0), least);
         assert_eq!(of(field, u64::MAX), 1);
     }
     assert_eq!(of(W, 41), 1);

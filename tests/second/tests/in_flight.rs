@@ -211,7 +211,7 @@ type Seen = (&'static str, Result<u64, u32>);
 
 /// Makes a random call of any kind at about this tick.
 fn call(throttle: &mut Throttle, numbers: &mut Numbers, tick: u64) -> (Seen, usize) {
-    let [.., banks, threads] = throttle.setting;
+    let [.., banks, threads, _] = throttle.setting;
     let outside = u64::from(numbers.one_in(20));
     let (bank, thread) = (
         numbers.within(0, banks - 1 + outside),

@@ -6,8 +6,9 @@ mod common;
 
 use common::*;
 use second::filter::hash;
-use second::log::{check, encode};
+use second::log::check;
 use second::setting::house_seeds;
+use second::write::encode;
 use second::{request, Config, Fault};
 use std::cmp::Ordering::{Equal, Greater, Less};
 use std::collections::{BTreeSet, HashMap};
@@ -24,7 +25,7 @@ fn s_with_n(n: u64) -> Throttle {
 
 /// One bank with any N up to the greatest.
 fn with_any_n(n: u64) -> Throttle {
-    Throttle::new([1 << 20, 1, 64, n, 64, 1 << 24, 255, 1, 1])
+    Throttle::new([1 << 20, 1, 64, n, 64, 1 << 24, 255, 1, 1, 0])
 }
 
 /// Writes a row's four counters in one filter of a bank.
@@ -383,8 +384,8 @@ fn in_a_list_at_most_what_the_own_openings_leave() {
 #[test]
 fn logs_carry_nothing_of_it() {
     let setting = s_with(&[(BANKS, 2), (THREADS, 2)]);
-    assert!(faults_of_left().len() >= 21);
-    for fault in faults_of_left() {
+    assert!(Fault::LEFT.len() >= 21);
+    for &fault in Fault::LEFT {
         for seed in 0..20 {
             let records = logged(Throttle::new(setting).with(fault), seed);
             assert_eq!(records, logged(Throttle::new(setting), seed));

@@ -3,8 +3,9 @@
 mod common;
 
 use common::*;
-use second::log::{check, encode, seal, Record, BLOCK};
+use second::log::{check, Record, BLOCK};
 use second::setting::house_seeds;
+use second::write::{encode, seal};
 use second::Fault;
 
 fn request(tick: u64, answer: u8, wait: u64) -> Record {
@@ -105,7 +106,8 @@ fn faulty_layout() {
         (0, 0, 1),
         (0, 4, 1),
         (0, 7, 1),
-        (0, 172, 1),
+        (0, 172, 2),
+        (0, 173, 1),
         (0, 507, 1),
         (1, 0, 2),
         (1, 3, 1),

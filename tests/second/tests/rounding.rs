@@ -13,7 +13,7 @@ use second::{Config, Fault};
 /// 2 and more.
 fn quota_with(fault: Fault, q: u64, d: u64, c: u64) -> u64 {
     let seeds = house_seeds();
-    let config = Config::new([4, 1, 1, 1, 2, d + 1, q, 1, 1], &seeds).with(fault);
+    let config = Config::new([4, 1, 1, 1, 2, d + 1, q, 1, 1, 0], &seeds).with(fault);
     let rules = accept(&config).unwrap();
     assert_eq!(rules.d, d);
     quota(&rules, c)

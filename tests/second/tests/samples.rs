@@ -5,9 +5,9 @@ mod common;
 use common::*;
 use second::filter::hash;
 use second::setting::{history_length, house_seeds, row_bound};
-use second::Config;
+use second::{Config, Setting};
 
-fn bound_and_length(setting: [u64; 9]) -> (Option<u128>, Option<u128>) {
+fn bound_and_length(setting: Setting) -> (Option<u128>, Option<u128>) {
     let config = Config::new(setting, &[]);
     (row_bound(&config), history_length(&config))
 }

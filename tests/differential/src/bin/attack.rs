@@ -10,17 +10,17 @@ use differential::settings::{bound, seeds, L, N, TD, TRC, W};
 use differential::side::{Library, Second, Side};
 use second::filter::hash;
 use second::setting::{accept, house_seeds};
-use second::{Config, Fault, State};
+use second::{Config, Fault, Setting, State};
 use std::process::ExitCode;
 
 /// Settings tried besides the listed ones.
 const SETTINGS: usize = 160;
 /// Setting S of the specification, where exhaustive search finds 8 of B = 10,
 /// and two settings that attain B, the second with tD above tRC.
-const LISTED: [[u64; 9]; 3] = [
-    [40, 1, 4, 2, 6, 10, 255, 1, 4],
-    [20, 2, 1, 2, 2, 10, 255, 2, 4],
-    [10, 2, 1, 1, 3, 4, 255, 2, 4],
+const LISTED: [Setting; 3] = [
+    [40, 1, 4, 2, 6, 10, 255, 1, 4, 1],
+    [20, 2, 1, 2, 2, 10, 255, 2, 4, 0],
+    [10, 2, 1, 1, 3, 4, 255, 2, 4, 1],
 ];
 /// Most activations of a row in W ticks for the listed settings.
 const LISTED_MOST: [usize; 3] = [8, 10, 4];
@@ -36,7 +36,7 @@ const UNSAFE: [Fault; 6] = [
 
 /// The most activations found on one setting.
 struct Found {
-    setting: [u64; 9],
+    setting: Setting,
     bound: usize,
     most: usize,
 }
@@ -61,14 +61,15 @@ fn main() -> ExitCode {
     }
 }
 
-/// A small accepted setting with L = B.
-fn small(numbers: &mut Numbers) -> [u64; 9] {
+/// A small accepted setting with L = B, of either profile.
+fn small(numbers: &mut Numbers) -> Setting {
     let trc = numbers.within(1, 3);
     let n = numbers.within(1, 4);
     let w = 2 * (n * trc + numbers.within(1, 14));
     let td = numbers.within(trc, (w / 2).max(trc));
     let tfaw = numbers.within(1, 5);
-    let mut setting = [w, trc, tfaw, n, td, 1, 255, numbers.within(1, 2), 4];
+    let (banks, mark) = (numbers.within(1, 2), numbers.within(0, 1));
+    let mut setting = [w, trc, tfaw, n, td, 1, 255, banks, 4, mark];
     setting[L] = bound(&setting).expect("W is large enough");
     if td > w / 2 {
         return LISTED[0];
@@ -92,12 +93,12 @@ fn colliding(numbers: &mut Numbers) -> Vec<u16> {
 }
 
 /// Cleared memory for an accepted setting.
-fn cleared(setting: &[u64; 9], seeds: &[u16]) -> State {
+fn cleared(setting: &Setting, seeds: &[u16]) -> State {
     State::cleared(&accept(&Config::new(*setting, seeds)).expect("an accepted setting"))
 }
 
 /// The most activations in W ticks over all adversaries.
-fn most(side: &mut impl Side, setting: &[u64; 9], numbers: &mut Numbers) -> usize {
+fn most(side: &mut impl Side, setting: &Setting, numbers: &mut Numbers) -> usize {
     let (w, epoch) = (setting[W], setting[W] / 2);
     let step = (epoch / 16).max(1) as usize;
     let mut most = 0;
@@ -122,7 +123,7 @@ fn most(side: &mut impl Side, setting: &[u64; 9], numbers: &mut Numbers) -> usiz
 }
 
 /// Attacks the library on every setting; no row gets above B.
-fn limits_hold(numbers: &mut Numbers, settings: &[[u64; 9]]) -> bool {
+fn limits_hold(numbers: &mut Numbers, settings: &[Setting]) -> bool {
     let mut found = Vec::new();
     for setting in settings {
         let seeds = colliding(numbers);
@@ -186,7 +187,7 @@ fn report(found: &[Found]) {
 }
 
 /// The adversaries get above B on each of the unsafe faults.
-fn faults_seen(numbers: &mut Numbers, settings: &[[u64; 9]]) -> bool {
+fn faults_seen(numbers: &mut Numbers, settings: &[Setting]) -> bool {
     let mut seen = 0;
     for fault in UNSAFE {
         let above = settings.iter().any(|&setting| {
@@ -213,8 +214,8 @@ fn faults_seen(numbers: &mut Numbers, settings: &[[u64; 9]]) -> bool {
 /// times in W ticks, far above its limit of 16,384. Document 01 refuses it with
 /// that limit, and accepts it with L = B = 24,528.
 fn published() -> bool {
-    let twin = [256_000_000, 185, 140, 8_192, 31_065, 24_528, 255, 1, 2];
-    let half = [256_000_000, 185, 140, 4_096, 31_065, 16_384, 255, 1, 2];
+    let twin = [256_000_000, 185, 140, 8_192, 31_065, 24_528, 255, 1, 2, 0];
+    let half = [256_000_000, 185, 140, 4_096, 31_065, 16_384, 255, 1, 2, 1];
     let mut refused = twin;
     refused[L] = 16_384;
     let seeds = house_seeds();
@@ -228,7 +229,7 @@ fn published() -> bool {
 
 /// The most activations in W ticks if N of them, tRC apart, end with an epoch
 /// and the others come as early as allowed.
-fn bursts(setting: &[u64; 9]) -> usize {
+fn bursts(setting: &Setting) -> usize {
     let seeds = house_seeds();
     let mut library = Library::new(setting, &seeds, &cleared(setting, &seeds));
     let turn = 3 * (setting[W] / 2);

@@ -1,12 +1,15 @@
 //! Compares the library with the second implementation after every call of a
-//! campaign, and on listed histories and counters. Arguments, both optional: the
+//! campaign, and on listed histories and counters; with itself under both
+//! profiles; and the log writer and the planner. Arguments, both optional: the
 //! seed and the number of runs.
 
 use differential::campaign::Campaign;
 use differential::settings::{accepted, BASES};
-use differential::tally::Tally;
-use differential::{levels, rings};
+use differential::side::Library;
+use differential::tally::{Tally, LEAST};
+use differential::{levels, planner, rings, twins, writer};
 use second::Fault;
+use std::fmt::Debug;
 use std::process::ExitCode;
 
 /// Runs of a campaign.
@@ -36,7 +39,7 @@ fn main() -> ExitCode {
             return ExitCode::FAILURE;
         }
     }
-    if !listed() {
+    if !(listed() && profiles(seed) && others(seed)) {
         return ExitCode::FAILURE;
     }
     println!("{tally}");
@@ -49,27 +52,56 @@ fn main() -> ExitCode {
     ExitCode::SUCCESS
 }
 
+/// Prints what was compared, or where there is a difference; was there none?
+fn none<E: Debug>(what: &str, compared: Result<String, E>) -> bool {
+    match &compared {
+        Ok(told) => println!("  {what}: {told}"),
+        Err(difference) => println!("compare: DIFFERENCE in {what}: {difference:#?}"),
+    }
+    compared.is_ok()
+}
+
 /// Compares on listed histories and on listed counters.
 fn listed() -> bool {
-    match rings::compare(Fault::None) {
-        Ok(told) => println!(
-            "  listed histories: {} sound, {} not",
-            told.sound, told.unsound
-        ),
-        Err(difference) => {
-            println!("compare: DIFFERENCE in a listed history: {difference:#?}");
-            return false;
+    let histories = rings::compare(Fault::None)
+        .map(|told| format!("{} sound, {} not", told.sound, told.unsound));
+    let counters = levels::compare(Fault::None)
+        .map(|told| format!("{} opened with 0 left, {} with more", told.none, told.some));
+    none("listed histories", histories) && none("listed counters", counters)
+}
+
+/// Compares the library with mark 1 and with mark 0.
+fn profiles(seed: u64) -> bool {
+    let compared = twins::compare(seed, Library::new).and_then(|told| {
+        let text = format!("{} settings, {} answers", told.settings, told.answered);
+        let enough = told.settings > 1_000 && told.answered > 10_000;
+        if enough {
+            Ok(text)
+        } else {
+            Err(format!("too few: {text}"))
         }
-    }
-    match levels::compare(Fault::None) {
-        Ok(told) => println!(
-            "  listed counters: {} opened with 0 left, {} with more",
-            told.none, told.some
-        ),
-        Err(difference) => {
-            println!("compare: DIFFERENCE with listed counters: {difference:#?}");
-            return false;
+    });
+    none("both profiles", compared)
+}
+
+/// Compares the log writer and the planner.
+fn others(seed: u64) -> bool {
+    let written = writer::compare(seed, Fault::None).and_then(|told| {
+        let text = format!("{told:?}");
+        let seldom = told.written.into_iter().any(|count| count < LEAST);
+        if seldom || told.refused < LEAST || told.for_the_mark < LEAST {
+            return Err(format!("too few: {text}"));
         }
-    }
-    true
+        Ok(text)
+    });
+    let planned = planner::compare(seed, Fault::None).and_then(|told| {
+        let of = |mark: usize| planner::NUMBERS.map(|number| told.numbers[mark][number]);
+        let text = format!("{:?} by number, {} fewer", [of(0), of(1)], told.fewer);
+        let seldom = of(0)[..6].iter().chain(&of(1)).any(|&count| count < LEAST);
+        if seldom || told.fewer < LEAST {
+            return Err(format!("too few: {text}"));
+        }
+        Ok(text)
+    });
+    none("log writer", written) && none("planner", planned)
 }

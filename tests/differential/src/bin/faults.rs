@@ -1,43 +1,79 @@
 //! Shows that the comparison sees: the library against the second
-//! implementation with one fault switched on must differ, for each fault.
-//! Argument, optional: the seed.
+//! implementation with one fault switched on must differ, for each fault of the
+//! calls, of the log writer and of the planner. Those of the log checker are shown
+//! by tests/log/run. Argument, optional: the seed.
 
 use differential::campaign::Campaign;
+use differential::side::Second;
 use differential::tally::Tally;
-use differential::{levels, rings};
-use second::Fault;
+use differential::{levels, planner, rings, twins, writer};
+use second::{Fault, Setting, State};
 use std::process::ExitCode;
 
 /// Runs within which a fault has to show.
 const RUNS: u64 = 10_000;
 /// Faults that are to be planted at least.
-const FAULTS: usize = 97;
+const FAULTS: usize = 154;
 
 fn main() -> ExitCode {
     let seed = std::env::args()
         .nth(1)
         .map_or(1, |seed| seed.parse().expect("a seed"));
-    let campaign = Campaign::new(seed);
     println!("faults: seed {seed}");
-    let mut caught = 0;
-    for &fault in Fault::ALL {
-        let mut tally = Tally::default();
-        let found = (0..RUNS)
-            .find_map(|run| campaign.run(run, fault, &mut tally).err())
-            .or_else(|| rings::compare(fault).err())
-            .or_else(|| levels::compare(fault).err());
-        match found {
-            Some(difference) => {
-                caught += 1;
-                let (name, what) = (format!("{fault:?}"), &difference.what);
-                println!("  {name:<26} call {:>7}: {what}", tally.calls + 1);
-            }
-            None => println!("  {fault:?}: NOT CAUGHT in {} calls", tally.calls),
-        }
-    }
-    println!("faults: {caught} of {} caught", Fault::ALL.len());
-    if caught < Fault::ALL.len() || caught < FAULTS {
+    let campaign = Campaign::new(seed);
+    let calls = [Fault::CALLS, Fault::LEFT, Fault::PROFILE, Fault::SMALL].concat();
+    let planted = calls.len() + Fault::WRITER.len() + Fault::PLANNER.len();
+    let caught = caught(&calls, |fault| in_calls(&campaign, fault))
+        + caught(Fault::WRITER, |fault| writer::compare(seed, fault).err())
+        + caught(Fault::PLANNER, |fault| planner::compare(seed, fault).err());
+    println!("faults: {caught} of {planted} caught");
+    println!("faults: the profiles beside each other");
+    let beside = caught_beside(seed);
+    println!("faults: {beside} of {} caught", Fault::SMALL.len());
+    let all = planted + Fault::CHECKER.len() == Fault::ALL.len();
+    if !all || caught < planted || caught < FAULTS || beside < Fault::SMALL.len() {
         return ExitCode::FAILURE;
     }
     ExitCode::SUCCESS
+}
+
+/// How many of these faults show, each by the first difference that is found.
+fn caught(faults: &[Fault], find: impl Fn(Fault) -> Option<String>) -> usize {
+    let shows = |fault: &&Fault| {
+        let found = find(**fault);
+        let name = format!("{fault:?}");
+        let what = found.as_deref().unwrap_or("NOT CAUGHT");
+        println!("  {name:<27} {what}");
+        found.is_some()
+    };
+    faults.iter().filter(shows).count()
+}
+
+/// How many of the faults show with which the small profile decides otherwise,
+/// where the second implementation is compared with itself under both profiles.
+fn caught_beside(seed: u64) -> usize {
+    caught(Fault::SMALL, |fault| {
+        let side = |setting: &_, seeds: &_, state: &_| faulty(setting, seeds, state, fault);
+        twins::compare(seed, side).err()
+    })
+}
+
+/// The first difference from a fault of the calls, with the number of the call.
+fn in_calls(campaign: &Campaign, fault: Fault) -> Option<String> {
+    let mut tally = Tally::default();
+    let found = (0..RUNS)
+        .find_map(|run| campaign.run(run, fault, &mut tally).err())
+        .or_else(|| rings::compare(fault).err())
+        .or_else(|| levels::compare(fault).err());
+    found.map(|difference| format!("call {:>7}: {}", tally.calls + 1, difference.what))
+}
+
+/// The second implementation with a fault.
+fn faulty(setting: &Setting, seeds: &[u16], state: &State, fault: Fault) -> Second {
+    Second {
+        setting: *setting,
+        seeds: seeds.to_vec(),
+        fault,
+        state: state.clone(),
+    }
 }

@@ -1,9 +1,10 @@
 //! Writes a faithful log to standard output: requests and dones run through
 //! the rules, each with the answer and the wait tick that they give.
 //!
-//! Arguments: STYLE SEED RECORDS START KEYS W TRC TFAW N TD L Q BANKS THREADS
-//! and, for a rule of document 01 in place of the present one, `down` for the
-//! quota rounded down or `bank` for in flight of the named bank alone.
+//! Arguments: STYLE SEED RECORDS START KEYS W TRC TFAW N TD L Q BANKS THREADS,
+//! then the profile mark, which is 0 if it is left out, and, for a rule of
+//! document 01 in place of the present one, `down` for the quota rounded down or
+//! `bank` for in flight of the named bank alone.
 //! STYLE is `random` for requests and dones at random ticks around those that
 //! matter, or `controller` for threads that wait as told, of which thread 0
 //! asks for two rows of bank 0 in turn. START is the tick of the first record.
@@ -11,9 +12,10 @@
 //! at random below KEYS: with few keys many rows share their counters.
 
 use second::decision::{OPENED, QUOTA};
-use second::log::{encode, Record};
+use second::log::Record;
 use second::setting::{accept, house_seeds};
-use second::{done, request, Config, Fault, State};
+use second::write::encode;
+use second::{done, request, Config, Fault, Setting, State};
 use std::cmp::Reverse;
 use std::collections::BinaryHeap;
 use std::io::{self, Write};
@@ -38,7 +40,7 @@ impl Numbers {
 
 /// A throttle with the log of what it was asked.
 struct Logger {
-    setting: [u64; 9],
+    setting: Setting,
     seeds: Vec<u16>,
     /// A rule of document 01 in place of the present one, or none.
     fault: Fault,
@@ -47,7 +49,7 @@ struct Logger {
 }
 
 impl Logger {
-    fn new(setting: [u64; 9], seeds: Vec<u16>, fault: Fault) -> Self {
+    fn new(setting: Setting, seeds: Vec<u16>, fault: Fault) -> Self {
         let rules = accept(&Config::new(setting, &seeds)).expect("the setting is accepted");
         let state = State::cleared(&rules);
         Logger {
@@ -94,7 +96,7 @@ impl Logger {
 /// Requests and dones at random. Most requests are for one of three rows; the
 /// next tick is mostly near one at which an answer may change.
 fn random(logger: &mut Logger, numbers: &mut Numbers, records: u64, start: u64) {
-    let [w, trc, tfaw, _, td, _, _, banks, threads] = logger.setting;
+    let [w, trc, tfaw, _, td, _, _, banks, threads, _] = logger.setting;
     let gaps = [0, 0, 0, 1, 1, 2, trc, tfaw, td, w / 2, w];
     let mut flying: Vec<(u64, u64)> = Vec::new();
     let (mut tick, mut wait) = (start, 0);
@@ -134,8 +136,8 @@ struct Pending {
 /// The request that a thread makes after one that was opened: thread 0 for its
 /// other row as soon as the bank may be free, the others for random rows, most
 /// of them at once.
-fn following(setting: [u64; 9], numbers: &mut Numbers, thread: u64, before: Pending) -> Pending {
-    let [_, trc, .., banks, _] = setting;
+fn following(setting: Setting, numbers: &mut Numbers, thread: u64, before: Pending) -> Pending {
+    let [_, trc, .., banks, _, _] = setting;
     let row = match thread {
         0 => before.row ^ 2,
         _ => numbers.word() as u16,
@@ -160,7 +162,7 @@ fn following(setting: [u64; 9], numbers: &mut Numbers, thread: u64, before: Pend
 /// one tick, thread 0 comes last. An activation ends 400 ticks after it began,
 /// one of thread 0 after up to 1,200.
 fn controller(logger: &mut Logger, numbers: &mut Numbers, records: u64, start: u64) {
-    let [w, .., threads] = logger.setting;
+    let [w, .., threads, _] = logger.setting;
     let first = Pending {
         tick: start,
         bank: 0,
@@ -204,6 +206,17 @@ fn old_rule(arguments: &mut Vec<String>) -> Fault {
     fault
 }
 
+/// The ten words of a setting from its nine numbers and the mark, if it is given.
+fn with_mark(words: &[u64]) -> Setting {
+    let mut words = words.to_vec();
+    if words.len() == 9 {
+        words.push(0);
+    }
+    words
+        .try_into()
+        .expect("the nine numbers of a setting, and its mark")
+}
+
 fn main() -> io::Result<()> {
     let mut arguments: Vec<String> = std::env::args().skip(1).collect();
     let fault = old_rule(&mut arguments);
@@ -215,7 +228,7 @@ fn main() -> io::Result<()> {
     let [seed, records, start, keys, setting @ ..] = words.as_slice() else {
         panic!("STYLE SEED RECORDS START KEYS and the nine numbers of a setting");
     };
-    let setting: [u64; 9] = setting.try_into().expect("the nine numbers of a setting");
+    let setting = with_mark(setting);
     let mut numbers = Numbers(*seed);
     let seeds = match keys {
         0 => house_seeds(),

@@ -1,13 +1,17 @@
 //! What the tests share: the setting S of the sample runs, a throttle with its
-//! own memory, random numbers, and logs made with a rule of document 01.
+//! own memory, random numbers, and logs made with a rule of document 01; in
+//! `runs` settings, memory and calls at random.
 #![allow(dead_code)]
 
-use second::log::{check, encode, Record, Report};
-use second::setting::{accept, house_seeds};
-use second::{done, index, request, setup, Config, Fault, State};
+pub mod runs;
 
-/// W 40, tRC 1, tFAW 4, N 2, tD 6, L 10, Q 4, one bank, one thread.
-pub const S: [u64; 9] = [40, 1, 4, 2, 6, 10, 4, 1, 1];
+use second::log::{check, Record, Report};
+use second::setting::{accept, house_seeds};
+use second::write::encode;
+use second::{done, index, request, setup, Config, Fault, Setting, State};
+
+/// W 40, tRC 1, tFAW 4, N 2, tD 6, L 10, Q 4, one bank, one thread, large.
+pub const S: Setting = [40, 1, 4, 2, 6, 10, 4, 1, 1, 0];
 
 /// A field of the setting by its place.
 pub const W: usize = 0;
@@ -19,6 +23,7 @@ pub const L: usize = 5;
 pub const Q: usize = 6;
 pub const BANKS: usize = 7;
 pub const THREADS: usize = 8;
+pub const MARK: usize = 9;
 
 /// Answer and wait tick of a request, unless it is refused.
 pub const OPENED: Result<[u64; 2], u32> = Ok([0, 0]);
@@ -29,8 +34,12 @@ pub fn wait_row(until: u64) -> Result<[u64; 2], u32> {
 }
 
 /// The setting S with some fields changed.
-pub fn s_with(changes: &[(usize, u64)]) -> [u64; 9] {
-    let mut setting = S;
+pub fn s_with(changes: &[(usize, u64)]) -> Setting {
+    with(S, changes)
+}
+
+/// A setting with some fields changed.
+pub fn with(mut setting: Setting, changes: &[(usize, u64)]) -> Setting {
     for &(field, value) in changes {
         setting[field] = value;
     }
@@ -38,14 +47,8 @@ pub fn s_with(changes: &[(usize, u64)]) -> [u64; 9] {
 }
 
 /// The refusal of a setting, 0 if it is accepted.
-pub fn refusal(setting: [u64; 9], seeds: &[u16]) -> u32 {
+pub fn refusal(setting: Setting, seeds: &[u16]) -> u32 {
     accept(&Config::new(setting, seeds)).err().unwrap_or(0)
-}
-
-/// The wrong behaviours that concern openings left.
-pub fn faults_of_left() -> Vec<Fault> {
-    let named = |fault: &Fault| format!("{fault:?}").starts_with("Left");
-    Fault::ALL.iter().copied().filter(named).collect()
 }
 
 /// Xorshift numbers, the same on every run.
@@ -72,7 +75,7 @@ impl Numbers {
 /// A throttle set up on memory of its own.
 #[derive(Clone)]
 pub struct Throttle {
-    pub setting: [u64; 9],
+    pub setting: Setting,
     pub seeds: Vec<u16>,
     /// A wrong behaviour, or none.
     pub fault: Fault,
@@ -80,7 +83,7 @@ pub struct Throttle {
 }
 
 impl Throttle {
-    pub fn new(setting: [u64; 9]) -> Self {
+    pub fn new(setting: Setting) -> Self {
         let seeds = house_seeds();
         let config = Config::new(setting, &seeds);
         let mut state = State::cleared(&accept(&config).unwrap());
@@ -172,7 +175,7 @@ impl Throttle {
 /// done is refused a request stands.
 pub fn logged(mut throttle: Throttle, seed: u64) -> Vec<Record> {
     let numbers = &mut Numbers::new(seed + 1);
-    let [.., banks, threads] = throttle.setting;
+    let [.., banks, threads, _] = throttle.setting;
     let mut tick = 0;
     let mut note = || {
         tick += numbers.within(0, 3);
@@ -198,7 +201,7 @@ pub fn logged(mut throttle: Throttle, seed: u64) -> Vec<Record> {
 /// The first of these records that an old rule and the present rules decide
 /// differently, on the state that both have come to, and its two answers, the
 /// old one first.
-fn first_other(setting: [u64; 9], old: Fault, records: &[Record]) -> Option<(usize, [u64; 2])> {
+fn first_other(setting: Setting, old: Fault, records: &[Record]) -> Option<(usize, [u64; 2])> {
     let mut throttle = Throttle::new(setting);
     for (place, record) in records.iter().enumerate() {
         let before = throttle.clone().with(old).make(record).unwrap();
@@ -214,7 +217,7 @@ fn first_other(setting: [u64; 9], old: Fault, records: &[Record]) -> Option<(usi
 /// differs at the first record that the two decide differently, and agrees if
 /// there is none; both happen. Returns the two answers to each such record, the
 /// old one first.
-pub fn where_old_logs_differ(setting: [u64; 9], old: Fault) -> Vec<[u64; 2]> {
+pub fn where_old_logs_differ(setting: Setting, old: Fault) -> Vec<[u64; 2]> {
     let mut agree = 0;
     let mut others = Vec::new();
     for seed in 0..300 {
