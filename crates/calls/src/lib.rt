@@ -1,4 +1,4 @@
-// Request, done and index on a state with 16-bit filters that passed the tests of refusals 1 to 9. Each leaves a state that passes the tests
+// Request, done and index on a state with 16-bit filters that passed the tests of refusals 1 to 9 and 16. Each leaves a state that passes the tests
 // of 6 and 7, so that a caller that owns its memory tests bank, thread and tick only.
 use answers::answer;
 use answers::openings_left;

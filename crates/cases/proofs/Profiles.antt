@@ -29,5 +29,5 @@ profiles =
       large1028 = refl;
       limit5 = refl;
       long4 = refl;
-      mark1 = refl;
+      mark2First = refl;
     }

@@ -43,4 +43,4 @@ pub record Profiles : Type 0 where
   -- both B > L and five banks: 5; H above 4,096 with mark 1: 4; mark 2 and B > L: 1
   pub limit5 : settingRefusal limits01 (markedS 9 5 1) house ≡ aboveLimit
   pub long4 : settingRefusal limits01 (fourBanks 143361 1) house ≡ longHistory
-  pub mark1 : settingRefusal limits01 (markedS 9 1 2) house ≡ outOfRange
+  pub mark2First : settingRefusal limits01 (markedS 9 1 2) house ≡ outOfRange

@@ -1,4 +1,4 @@
--- A done that passes refusals 1 to 9 is refused with 10 exactly if the named bank has none of the thread's requests, and else lowers the total.
+-- A done that passes refusals 1 to 9 and 16 is refused with 10 exactly if the named bank has none of the thread's requests, and else lowers the total.
 use mathlib.Core.Path.{_≡_, refl, sym, ap, _∙_}
 use mathlib.Core.List.{List}
 use mathlib.Core.Bool.{Bool, true, false}

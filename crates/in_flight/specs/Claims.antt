@@ -64,7 +64,7 @@ AtMostQ p =
 -- ---- a done
 
 -- "Done for a bank lowers the total and is refused with 10 exactly if that bank has none of the thread's requests.": of a done on any state that passes
--- refusals 1 to 9, whatever the total is
+-- refusals 1 to 9 and 16, whatever the total is
 pub record DoneInBank (p : Policy) (s : Setting) (seeds : List ℕ) (st : State) (t bank thread : ℕ) : Type 0 where
   pub noneHere : inFlightHere s (st .threads) bank thread ≡ 0 → step p s seeds st (done t bank thread) .reply ≡ refused noneInFlight
   pub onlyThen : step p s seeds st (done t bank thread) .reply ≡ refused noneInFlight → inFlightHere s (st .threads) bank thread ≡ 0

@@ -1,4 +1,4 @@
--- The tests of refusals 1 to 6, from the setting, the seeds and the lengths of the buffers.
+-- The tests of refusals 1 to 6 and 16, from the setting, the seeds and the lengths of the buffers.
 use Prim.Native.Nat.{ℕ}
 use mathlib.Core.List.{List}
 use mathlib.Core.Bool.{Bool, _||_}
@@ -14,7 +14,7 @@ unfoldable pub shortTest : Setting → ℕ → ℕ → ℕ → ℕ → Bool
 shortTest s counters ticks rows threads =
     ltb counters (countersUsed s) || ltb ticks (historyLength s) || ltb rows (historyLength s) || ltb threads (threadsUsed s)
 
--- refusals 1 to 6, by the lengths of the buffers
+-- refusals 1 to 6 and 16, by the lengths of the buffers
 unfoldable pub setupTest : Limits → Setting → List ℕ → ℕ → ℕ → ℕ → ℕ → Refusal
 setupTest m s seeds counters ticks rows threads =
     orElse (settingRefusal m s seeds) (refuse (shortTest s counters ticks rows threads) shortBuffer none)

@@ -1,4 +1,4 @@
-// Refusals 1 to 6: of the setting and its seeds, and of buffers that are too short for it. No function here knows the width of a filter counter.
+// Refusals 1 to 5, 16 and 6: of the setting and its seeds, and of buffers that are too short for it. No function here knows the width of a filter counter.
 use rules::Limits;
 use rules::Setting;
 ghost use mathlib.Core.Path.{_≡_};
@@ -31,7 +31,7 @@ fn too_short(
     (threads as u64) < s.banks * s.threads * 3
 }
 
-// Refusals 1 to 6. Of the buffers it takes the lengths.
+// Refusals 1 to 6 and 16. Of the buffers it takes the lengths.
 pub fn setup_refusal(
     m: Limits,
     s: Setting,

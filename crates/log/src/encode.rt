@@ -7,6 +7,7 @@ use log_start::put_mark;
 use log_start::put_seeds;
 use log_start::put_setting;
 use log_write::put_record;
+use setting_words::is_known;
 ghost use mathlib.Core.Path.{_≡_};
 ghost use Prim.Native.Nat.{_^_};
 ghost use lib.Dec.{ltb};
@@ -85,7 +86,7 @@ fn setting_fits(setting: &[u64; 10]) -> bool
     ok
 }
 
-// Writes block 0. 1 for a field that does not fit 32 bits, a mark above 1, or other than 64 seeds; whether the setting is accepted is not asked.
+// Writes block 0. 1 for a field that does not fit 32 bits, a mark that no profile has, or other than 64 seeds; whether the setting is accepted is not asked.
 // It rules out: a writer that numbers the block 1, one that writes the seeds over the setting, and one that leaves the mark out.
 #[no_mangle]
 pub extern "C" fn throttle_log_start(
@@ -96,7 +97,8 @@ pub extern "C" fn throttle_log_start(
     ensures { λ r. ⌜ written r (now (block .exit)) ≡ startWritten (now (block .entry)) (now (setting .entry)) (now (seeds .entry)) ⌝ }
 {
     let mark = setting[9];
-    if !and(and(setting_fits(setting), mark < 2), seeds.len() == 64) {
+    let fits = and(setting_fits(setting), is_known(mark));
+    if !and(fits, seeds.len() == 64) {
         return 1;
     }
     put_setting(block, setting);

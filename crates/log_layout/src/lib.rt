@@ -4,6 +4,7 @@ use log_bytes::read::word32;
 use log_bytes::tests::and;
 use log_bytes::tests::are_zero;
 use log_records::are_records;
+use setting_words::is_known;
 ghost use mathlib.Core.Path.{_≡_};
 ghost use mathlib.Core.Bool.{true};
 ghost use Prim.Native.Nat.{_<_, _^_};
@@ -30,8 +31,8 @@ fn is_later(block: &[u8; 512]) -> bool
 fn is_start(block: &[u8; 512]) -> bool
     ensures { λ r. ⌜ r ≡ startLaidOut (now (block .entry)) ⌝ }
 {
-    let counted = and(byte(block, 4) == 0, byte(block, 172) < 2);
-    and(counted, are_zero(block, 173, 335))
+    let marked = and(byte(block, 4) == 0, is_known(byte(block, 172)));
+    and(marked, are_zero(block, 173, 335))
 }
 
 // A block after block 1 follows one of 20 records.

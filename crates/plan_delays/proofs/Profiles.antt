@@ -4,7 +4,6 @@ use mathlib.Core.Logic.{_≢_}
 use mathlib.Core.Bool.{Bool, true, false}
 use Prim.Native.Nat.{ℕ, _≤_}
 use native.Mathlib.Omega.{arith}
-use lib.Dec.{T}
 use Rattle.rules.specs.declared.Setting.{Setting}
 use Rattle.rules.specs.declared.Limits.{Limits}
 use Rattle.rules.specs.Answers.{Refusal, none, outOfRange, shortWindow, badDelay, longHistory, aboveLimit, aboveProfile, shortBuffer, badMemory, outsideSetting, badTick, noneInFlight, refusalNumber, refuse}
@@ -13,9 +12,9 @@ use Rattle.rules.proofs.Tests.{is-true}
 use Rattle.profiles.proofs.Refusals.{passed-large, own-decides, large-decides}
 use Rattle.plan_delays.specs.declared.Plan.{Plan}
 use Rattle.plan_delays.specs.declared.Plan.the-variants.{Between, Nothing}
-use Rattle.plan_delays.specs.Delays.{withDelay, someSeeds, delayRefusal, InRange, Ends, Smallest, Reason, everyDelay, onlyProfile, smallestDelay, noDelay, Says}
+use Rattle.plan_delays.specs.Delays.{withDelay, someSeeds, delayRefusal, Ends, Reason, everyDelay, onlyProfile, smallestDelay, noDelay, Says}
 use Rattle.plan_delays.specs.Answer.{delaysOf}
-use Rattle.plan_delays.specs.Claims.{ByProfile, Sixteen}
+use Rattle.plan_delays.specs.Claims.{Sixteen}
 use Rattle.plan_delays.proofs.Shape.{exceedsOwn, one}
 use Rattle.plan_delays.proofs.Answer.{right}
 use Rattle.plan_delays.proofs.Only.{only-one}
@@ -63,9 +62,12 @@ module _ (m : Limits) (s : Setting) where
       go (Between a b) k = (a, b, k)
       go (Nothing r) k = absurd (subst (Says m large) k (right m large) .0 td (passed td e))
 
-  only : delaysOf m s ≡ Nothing 16 → (a : ℕ) × (b : ℕ) × (delaysOf m large ≡ Between a b)
-  only e = go (subst (Says m s) e (right m s) .1)
+  only : delaysOf m s ≡ Nothing 16 → ((a : ℕ) × (b : ℕ) × (delaysOf m large ≡ Between a b)) × ((td : ℕ) → delayRefusal m s td ≢ none)
+  only e = (go (said .1), said .0)
     where
+      said : Says m s (Nothing 16)
+      said = subst (Says m s) e (right m s)
+
       go : Reason m s 16 → (a : ℕ) × (b : ℕ) × (delaysOf m large ≡ Between a b)
       go (everyDelay r k f) = has-large 1 (f 1 one ∙ is-above r (sym k))
       go (onlyProfile td k x) = has-large td x

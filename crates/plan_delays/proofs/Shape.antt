@@ -2,7 +2,7 @@
 use mathlib.Core.Path.{_≡_, refl, sym, ap, _∙_}
 use mathlib.Core.Logic.{_≢_}
 use mathlib.Core.Bool.{Bool, true, false, not, _&&_, _||_}
-use Prim.Native.Nat.{ℕ, _-_, _*_, _≤_}
+use Prim.Native.Nat.{ℕ, _-_, _*_, _^_, _≤_}
 use native.Mathlib.Omega.{arith}
 use lib.Dec.{ltb}
 use borrow.Author.Tests.{le-leb, le-ltb, ltb-false}
@@ -13,7 +13,7 @@ use Rattle.rules.specs.Setting.{epochLength, historyLength, rowBound, profileOf
 use Rattle.rules.proofs.Tests.{is-true, and-l, not-not}
 use Rattle.rules.proofs.Accept.{ranges, refuse-none}
 use Rattle.rules.specs.Tested.{Ranges}
-use Rattle.plan_delays.specs.Delays.{withDelay, withThreshold, someSeeds, delayRefusal, InRange}
+use Rattle.plan_delays.specs.Delays.{withDelay, withThreshold, withLimit, someSeeds, delayRefusal, InRange}
 use Rattle.plan_delays.specs.Claims.{SeedsPlayNoPart}
 
 -- ---- the parts of the refusal
@@ -53,6 +53,14 @@ any-threshold m s n more td h k j =
     let one : 1 ≤ more = omega arith in
     let top : n ≤ m .threshold = omega arith in
     simp (le-leb 1 n h, le-leb n (m .threshold) top, le-leb 1 more one, le-leb more (m .threshold) j)
+
+pub any-limit : (m : Limits) (s : Setting) (l more td : ℕ) → 1 ≤ l → l ≤ more → more ≤ 2 ^ 24
+    → fieldsInRange m (withDelay (withLimit s more) td) ≡ fieldsInRange m (withDelay (withLimit s l) td)
+unfolding fieldsInRange
+any-limit m s l more td h k j =
+    let one : 1 ≤ more = omega arith in
+    let top : l ≤ 2 ^ 24 = omega arith in
+    simp (le-leb 1 l h, le-leb l 16777216 top, le-leb 1 more one, le-leb more 16777216 j)
 
 pub shape : (m : Limits) (s : Setting) (td : ℕ) → InRange td → delayRefusal m s td ≡ refuse (not (others m s)) outOfRange (refuse (crowded s) shortWindow (lateOf m s td))
 unfolding delayRefusal settingRefusal

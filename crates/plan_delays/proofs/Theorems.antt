@@ -4,7 +4,7 @@ use Rattle.plan_delays.proofs.Shape.{seeds-play-no-part}
 use Rattle.plan_delays.proofs.Answer.{right, delay-plays-no-part}
 use Rattle.plan_delays.proofs.Only.{only-one}
 use Rattle.plan_delays.proofs.Profiles.{sixteen}
-use Rattle.plan_delays.proofs.Trade.{longer-delay, nested, grows, up-to-last, flat, decided}
+use Rattle.plan_delays.proofs.Trade.{longer-delay, nested, grows, up-to-last, larger-limit, flat, decided}
 
 pub theorems : Theorems
 theorems =
@@ -18,6 +18,7 @@ theorems =
       nested = nested;
       grows = grows;
       upToLast = up-to-last;
+      largerLimit = larger-limit;
       flat = flat;
       decided = decided;
     }

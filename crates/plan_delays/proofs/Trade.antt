@@ -13,11 +13,11 @@ use Rattle.rules.specs.Setting.{historyLength, rowBound, profileOf}
 use Rattle.rules.specs.Tested.{Accepted}
 use Rattle.plan_delays.specs.declared.Plan.{Plan}
 use Rattle.plan_delays.specs.declared.Plan.the-variants.{Between, Nothing}
-use Rattle.plan_delays.specs.Delays.{withDelay, withThreshold, someSeeds, delayRefusal, AcceptedDelay, Ends, Says}
+use Rattle.plan_delays.specs.Delays.{withDelay, withThreshold, withLimit, someSeeds, delayRefusal, AcceptedDelay, Ends, Says}
 use Rattle.plan_delays.specs.Answer.{smallestDelay, leastDelay, greatestDelay, ownGreatest, delaysWithin, delaysAbove, delaysOf}
-use Rattle.plan_delays.specs.Claims.{LongerDelay, Nested, Grows, UpToLast, Flat, Decided}
+use Rattle.plan_delays.specs.Claims.{LongerDelay, Nested, Grows, UpToLast, LargerLimit, Flat, Decided}
 use Rattle.plan_delays.proofs.Numbers.{quotient-falls, ceil-grows, bound-grows, room-kept, smallest-below, smallest-above}
-use Rattle.plan_delays.proofs.Shape.{any-threshold, by-profile, within-own, accepted-fields}
+use Rattle.plan_delays.proofs.Shape.{any-threshold, any-limit, by-profile, within-own, accepted-fields}
 use Rattle.plan_delays.proofs.Interval.{accepted-delay, inside}
 use Rattle.plan_delays.proofs.Answer.{right}
 
@@ -52,6 +52,17 @@ nested m s n more td h k e =
     (subst (λ (y : ℕ). y ≤ m .history) same (a .short))
     (le-trans (bound-smaller s n more td k (a .gaps) (a .ranges .td-low) (a .room)) (a .bound))
     ∙ simp (within-own (withThreshold s n) td (a .banks-own) (subst (λ (y : ℕ). y ≤ profileOf (s .profile) .history) same (a .history-own)))
+
+-- ---- with a larger limit
+
+pub larger-limit : LargerLimit
+unfolding delayRefusal historyLength rowBound
+larger-limit m s l more td h top e =
+    let x = withDelay (withLimit s l) td in
+    let a : Accepted m x someSeeds = accepted-delay m (withLimit s l) td e in
+    let f = any-limit m s l more td (a .ranges .l-low) h top ∙ accepted-fields m x e in
+    by-profile m (withDelay (withLimit s more) td) f (a .room) (a .gaps) (a .delay) (a .short) (le-trans (a .bound) h)
+    ∙ simp (within-own (withLimit s more) td (a .banks-own) (a .history-own))
 
 -- ---- the answers for two thresholds
 

@@ -3,7 +3,7 @@
 use mathlib.Core.Path.{_≡_}
 use mathlib.Core.Logic.{_≢_}
 use mathlib.Core.List.{List}
-use Prim.Native.Nat.{ℕ, _-_, _*_, _≤_, _<_}
+use Prim.Native.Nat.{ℕ, _-_, _*_, _^_, _≤_, _<_}
 use lib.Dec.{T}
 use Rattle.rules.specs.declared.Setting.{Setting}
 use Rattle.rules.specs.declared.Limits.{Limits}
@@ -11,7 +11,7 @@ use Rattle.rules.specs.Answers.{none}
 use Rattle.rules.specs.Setting.{withMark, known, historyLength, rowBound, seedsInRange, settingRefusal}
 use Rattle.plan_delays.specs.declared.Plan.{Plan}
 use Rattle.plan_delays.specs.declared.Plan.the-variants.{Between, Nothing}
-use Rattle.plan_delays.specs.Delays.{withDelay, withThreshold, delayRefusal, AcceptedDelay, Says}
+use Rattle.plan_delays.specs.Delays.{withDelay, withThreshold, withLimit, delayRefusal, AcceptedDelay, Says}
 use Rattle.plan_delays.specs.Answer.{smallestDelay, delaysOf}
 
 -- The answer is right for all limits and every setting: both ends are accepted, every delay between them is, none outside them is;
@@ -43,7 +43,7 @@ LongerDelay =
 -- The answer 16 is given where only the profile excludes every delay: the large profile accepts one, and the setting's own accepts none. Where the
 -- large profile accepts none either, the answer is the large profile's.
 pub record ByProfile (m : Limits) (s : Setting) : Type 0 where
-  pub only : delaysOf m s ≡ Nothing 16 → (a : ℕ) × (b : ℕ) × (delaysOf m (withMark 0 s) ≡ Between a b)
+  pub only : delaysOf m s ≡ Nothing 16 → ((a : ℕ) × (b : ℕ) × (delaysOf m (withMark 0 s) ≡ Between a b)) × ((td : ℕ) → delayRefusal m s td ≢ none)
   pub excluded : (a b : ℕ) → delaysOf m (withMark 0 s) ≡ Between a b → ((td : ℕ) → delayRefusal m s td ≢ none) → delaysOf m s ≡ Nothing 16
   pub asLarge : (number : ℕ) → delaysOf m (withMark 0 s) ≡ Nothing number → delaysOf m s ≡ Nothing number
 
@@ -71,6 +71,11 @@ UpToLast =
     (m : Limits) (s : Setting) (n more r : ℕ) → 1 ≤ n → n ≤ more
     → delaysOf m (withThreshold s n) ≡ Nothing r → (c d : ℕ) → delaysOf m (withThreshold s more) ≡ Between c d → ⊥
 
+-- A delay that is accepted with a limit L is accepted with every larger one of the table's range: what has no delay with L has none with a smaller L.
+abbrev pub LargerLimit : Type 0
+LargerLimit =
+    (m : Limits) (s : Setting) (l more td : ℕ) → l ≤ more → more ≤ 2 ^ 24 → AcceptedDelay m (withLimit s l) td → AcceptedDelay m (withLimit s more) td
+
 -- Where L + 1 activations, each tRC after the one before, do not fit in W ticks, the least delay is tRC for every threshold: it does not grow.
 abbrev pub Flat : Type 0
 Flat = (m : Limits) (s : Setting) (a b : ℕ) → s .w - 1 < s .trc * s .l → delaysOf m s ≡ Between a b → a ≡ s .trc
@@ -89,5 +94,6 @@ pub record Theorems : Type 0 where
   pub nested : Nested
   pub grows : Grows
   pub upToLast : UpToLast
+  pub largerLimit : LargerLimit
   pub flat : Flat
   pub decided : Decided

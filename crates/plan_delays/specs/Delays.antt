@@ -22,6 +22,11 @@ abbrev pub withThreshold : Setting → ℕ → Setting
 withThreshold s n =
     record { w = s .w; trc = s .trc; tfaw = s .tfaw; n = n; td = s .td; l = s .l; q = s .q; banks = s .banks; threads = s .threads; profile = s .profile }
 
+-- the setting with another limit L
+abbrev pub withLimit : Setting → ℕ → Setting
+withLimit s l =
+    record { w = s .w; trc = s .trc; tfaw = s .tfaw; n = s .n; td = s .td; l = l; q = s .q; banks = s .banks; threads = s .threads; profile = s .profile }
+
 -- Seeds in range, so that none of the setting's refusals is theirs. Any others in range give the same refusals (`SeedsPlayNoPart`).
 abbrev pub someSeeds : List ℕ
 someSeeds = replicate 64 0

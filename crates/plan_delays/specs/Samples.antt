@@ -35,7 +35,7 @@ pub record Cases : Type 0 where
   -- The small card has the delays of the large one with a history of at most 1,024 places, and 16 where these are none.
   pub small16384 : (delaysOf limits01 (smallOne 4096 16384 4) ≡ Between 31065 35840) × (delaysOf limits01 (smallOne 8192 16384 4) ≡ Nothing 5)
   pub small8192 : (delaysOf limits01 (smallOne 512 8192 4) ≡ Between 35688 35840) × (delaysOf limits01 (smallOne 2048 8192 4) ≡ Nothing 16)
-  -- 7,145 is the least L that it can serve
+  -- 7,145 is the least L that it can serve: with 7,144 it has no delay even for N 1, and so for no larger N (`Nested`) and no smaller L (`LargerLimit`)
   pub small7145 : (delaysOf limits01 (smallOne 1 7145 4) ≡ Between 35840 35840) × (delaysOf limits01 (smallOne 1 7144 4) ≡ Nothing 16)
   -- five banks get 16 where the large card has a delay, and else what that gets
   pub small5 : (delaysOf limits01 (smallOne 4096 16384 5) ≡ Nothing 16) × (delaysOf limits01 (smallOne 8192 16384 5) ≡ Nothing 5)

@@ -1,4 +1,4 @@
--- The refusals about the setting as document 01 has them, for a setting without a profile mark: 1 to 5.
+-- The refusals about the setting as document 01 has them, 1 to 5, whatever its profile mark, which is not looked at.
 use mathlib.Core.List.{List}
 use mathlib.Core.Bool.{Bool, not, _&&_, _||_}
 use Prim.Native.Nat.{ℕ, _-_, _*_, _%_, _^_}

@@ -66,10 +66,10 @@ module _ (m : Limits) (s : Setting) (seeds : List ℕ) (st : State) where
   unfolding doneRefusal doneTest
   done-test tick bank thread = rw (call-test tick bank thread)
 
--- ---- refusals 1 to 7 of what is lent
+-- ---- refusals 1 to 7 and 16 of what is lent
 
 module _ (m : Limits) (s : Setting) (seeds : List ℕ) (h : Head) (counters : ℕ) (ticks : List ℕ) (rows threads : ℕ) where
-  -- set-up has none but 1 to 6
+  -- set-up has none but 1 to 6 and 16
   pub lent-setup : lentTest m s seeds h counters ticks rows threads false ≡ setupTest m s seeds counters (length ticks) rows threads
   unfolding lentTest
   lent-setup = orElse-nothing (setupTest m s seeds counters (length ticks) rows threads)
@@ -88,7 +88,7 @@ module _ (m : Limits) (s : Setting) (seeds : List ℕ) (h : Head) (counters : �
 
 -- ---- what the tests that are passed tell
 
--- of refusals 1 to 6
+-- of refusals 1 to 6 and 16
 pub record Lengths (m : Limits) (s : Setting) (seeds : List ℕ) (ticks threads : ℕ) : Type 0 where
   pub setting : Accepted m s seeds
   pub ticks-long : historyLength s ≤ ticks
@@ -112,7 +112,7 @@ tested-setup m s seeds counters ticks rows threads e =
       threads-long = nltb→le threads (threadsUsed s) (n3 .1);
     }
 
--- of refusals 1 to 9
+-- of refusals 1 to 9 and 16
 pub record Tested (m : Limits) (s : Setting) (seeds : List ℕ) (threads bank thread : ℕ) : Type 0 where
   pub setting : Accepted m s seeds
   pub threads-long : threadsUsed s ≤ threads

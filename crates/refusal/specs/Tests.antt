@@ -13,17 +13,17 @@ use Rattle.memory.specs.Memory.{memoryTest}
 unfoldable pub use Rattle.lengths.specs.Lengths.{setupTest}
 unfoldable pub use Rattle.place.specs.Place.{placeRefusal}
 
--- refusals 1 to 6, and 7 where the call keeps what the memory holds, as every call but set-up does
+-- refusals 1 to 6 and 16, and 7 where the call keeps what the memory holds, as every call but set-up does
 unfoldable pub lentTest : Limits → Setting → List ℕ → Head → ℕ → List ℕ → ℕ → ℕ → Bool → Refusal
 lentTest m s seeds h counters ticks rows threads keeps =
     orElse (setupTest m s seeds counters (length ticks) rows threads) (refuse (keeps && not (memoryTest s h ticks)) badMemory none)
 
--- refusals 1 to 9: of counters, rows and thread counters the lengths are enough
+-- refusals 1 to 9 and 16: of counters, rows and thread counters the lengths are enough
 unfoldable pub callTest : Limits → Setting → List ℕ → Head → ℕ → List ℕ → ℕ → ℕ → ℕ → ℕ → ℕ → Refusal
 callTest m s seeds h counters ticks rows threads tick bank thread =
     orElse (lentTest m s seeds h counters ticks rows threads true) (placeRefusal s (h .last) tick bank thread)
 
--- refusals 1 to 10, with the thread counters
+-- refusals 1 to 10 and 16, with the thread counters
 unfoldable pub doneTest : Limits → Setting → List ℕ → Head → ℕ → List ℕ → ℕ → List ℕ → ℕ → ℕ → ℕ → Refusal
 doneTest m s seeds h counters ticks rows threads tick bank thread =
     orElse (callTest m s seeds h counters ticks rows (length threads) tick bank thread)

@@ -1,4 +1,4 @@
-// Refusals 1 to 10 of the calls, in their order, for any limits of the setting. No function here knows the width of a filter counter.
+// Refusals 1 to 10 and 16 of the calls, in their order, for any limits of the setting. No function here knows the width of a filter counter.
 use memory::memory_ok;
 use rules::Limits;
 ghost use mathlib.Core.Path.{_≡_};
@@ -13,7 +13,7 @@ pub use lengths::setup_refusal;
 pub use place::flying_refusal;
 pub use place::place_refusal;
 
-// Refusals 1 to 6 and, where the call keeps what the memory holds, 7. The setting and the head are read where the caller lent them. Of
+// Refusals 1 to 5, 16, 6 and, where the call keeps what the memory holds, 7. The setting and the head are read where the caller lent them. Of
 // counters, rows and thread counters it takes the lengths.
 pub fn lent_refusal(
     m: Limits,
@@ -44,7 +44,7 @@ pub fn lent_refusal(
     }
 }
 
-// Refusals 1 to 9 of a call with a tick, a bank and a thread.
+// Refusals 1 to 9 and 16 of a call with a tick, a bank and a thread.
 pub fn call_refusal(
     m: Limits,
     setting: &[u64; 10],
@@ -78,7 +78,7 @@ pub fn call_refusal(
     place_refusal(setting::load(setting), head[0], tick, bank, thread)
 }
 
-// Refusals 1 to 10 of a done.
+// Refusals 1 to 10 and 16 of a done.
 pub fn done_refusal(
     m: Limits,
     setting: &[u64; 10],

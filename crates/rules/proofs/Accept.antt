@@ -11,7 +11,7 @@ use Rattle.rules.specs.declared.Setting.{Setting}
 use Rattle.rules.specs.declared.Limits.{Limits}
 use Rattle.rules.specs.Cells.{ceilDiv}
 use Rattle.rules.specs.Answers.{Refusal, none, outOfRange, shortWindow, badDelay, longHistory, aboveLimit, aboveProfile, shortBuffer, badMemory, outsideSetting, badTick, noneInFlight, refusalNumber, refuse, orElse}
-use Rattle.rules.specs.Setting.{epochLength, historyLength, rowBound, known, profileOf, exceeds, fieldsInRange, seedsInRange, settingRefusal}
+use Rattle.rules.specs.Setting.{epochLength, historyLength, rowBound, profileOf, exceeds, fieldsInRange, seedsInRange, settingRefusal}
 use Rattle.rules.specs.State.{State, countersUsed, threadsUsed, threadCell, tooShort}
 use Rattle.rules.specs.History.{memoryOk}
 use Rattle.rules.specs.Tested.{Ranges, Accepted, Long, SetUp, Taken}

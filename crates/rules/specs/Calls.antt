@@ -58,7 +58,7 @@ outcome reply st = record { reply = reply; state = st }
 unfoldable pub setupRefusal : Limits → Setting → List ℕ → State → Refusal
 setupRefusal m s seeds st = orElse (settingRefusal m s seeds) (refuse (tooShort s st) shortBuffer none)
 
--- refusals 1 to 9 of a call with a tick, a bank and a thread
+-- refusals 1 to 5, 16, 6 to 9 of a call with a tick, a bank and a thread
 unfoldable pub callRefusal : Limits → Setting → List ℕ → State → ℕ → ℕ → ℕ → Refusal
 callRefusal m s seeds st tick bank thread =
     orElse (settingRefusal m s seeds)

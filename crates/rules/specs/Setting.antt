@@ -47,7 +47,7 @@ rowBound s = 2 * s .n + 1 + (s .w - 1 - 2 * s .n * s .trc) / s .td
 abbrev pub indexScale : Setting → ℕ
 indexScale s = s .l - s .n
 
--- "big cards keep their limits" (document 02, g): 16 banks, and as many history places as the longest delay of the table needs
+-- "big cards keep their limits" (document 02, g): 16 banks, and as many history places as the longest delay of the table needs with tFAW 1
 abbrev pub large : Profile
 large = record { banks = 16; history = 2 ^ 31 }
 

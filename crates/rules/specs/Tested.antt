@@ -77,7 +77,7 @@ pub record SetUp (m : Limits) (s : Setting) (seeds : List ℕ) (before : State) 
   pub setting : Accepted m s seeds
   pub long : Long s before
 
--- a request, a done or an index reading that is not refused with 1 to 9
+-- a request, a done or an index reading that is not refused with 1 to 9 or 16
 pub record Taken (m : Limits) (s : Setting) (seeds : List ℕ) (found : State) (t bank thread : ℕ) : Type 0 where
   pub setting : Accepted m s seeds
   pub long : Long s found

@@ -19,7 +19,7 @@ pub struct Setting {
     pub q: u64,
     pub banks: u64,
     pub threads: u64,
-    // The mark of the card's profile.
+    // The mark of the card's profile: 0 large, 1 small.
     pub profile: u64,
 }
 

@@ -1,4 +1,5 @@
 // Refusal 1: every field of a setting in its range of the table, its mark that of a profile, and every seed in its own range.
+use setting_words::is_known;
 ghost use mathlib.Core.Path.{_≡_};
 ghost use mathlib.Core.Bool.{_&&_};
 ghost use Rattle.rules.specs.Cells.{between};
@@ -25,7 +26,7 @@ fn and_within(before: bool, low: u64, high: u64, x: u64) -> bool
     and(before, within(low, high, x))
 }
 
-// Every field is in its range of the table, with the greatest N of these limits, and the mark is that of a profile: 0 or 1.
+// Every field is in its range of the table, with the greatest N of these limits, and the mark is that of a profile.
 pub fn fields_in_range(m: rules::Limits, s: rules::Setting) -> bool
     ensures { λ r. ⌜ r ≡ fieldsInRange m s ⌝ }
 {
@@ -38,7 +39,7 @@ pub fn fields_in_range(m: rules::Limits, s: rules::Setting) -> bool
     let q = and_within(l, 1, 255, s.q);
     let banks = and_within(q, 1, 16, s.banks);
     let threads = and_within(banks, 1, 32, s.threads);
-    and(threads, s.profile < 2)
+    and(threads, is_known(s.profile))
 }
 
 // There are 64 seeds and each is at most 1,023. The quotients by 1,024 are summed without a branch:

@@ -1,6 +1,6 @@
 // What a setting is to the calls: the struct that its ten words hold, and the limits that it is tested with.
 ghost use mathlib.Core.Path.{_≡_};
-ghost use Rattle.rules.specs.Setting.{settingOf, profileOf};
+ghost use Rattle.rules.specs.Setting.{settingOf, known, profileOf};
 ghost use Rattle.rules.specs.Policy.{limits01};
 
 // The setting that the ten words hold: nine in the order of document 01's table, and the profile mark.
@@ -31,7 +31,14 @@ pub fn narrow_limits() -> rules::Limits
     }
 }
 
-// The limits of the profile with this mark: 1 is the small card, any other the large one. They stand here and nowhere else in the code.
+// Whether a profile has this mark: 0 is the large card, 1 the small one.
+pub fn is_known(mark: u64) -> bool
+    ensures { λ r. ⌜ r ≡ known mark ⌝ }
+{
+    mark < 2
+}
+
+// The limits of the profile with this mark, those of the large card where none has it. The small card's stand here and nowhere else in the code.
 pub fn profile(mark: u64) -> rules::Profile
     ensures { λ r. ⌜ r ≡ profileOf mark ⌝ }
 {

@@ -1,5 +1,5 @@
 // The calls for callers in Rattle that own their memory, such as a log checker: set-up, and request and done on a state that passed the tests
-// of refusals 1 to 7, which each call keeps. Only bank, thread, tick and what is in flight are tested, so no call reads the whole history.
+// of refusals 1 to 7 and 16, which each call keeps. Only bank, thread, tick and what is in flight are tested, so no call reads the whole history.
 // Done stands here; set-up and request are exported again.
 use head::Head;
 use refusal::flying_refusal;

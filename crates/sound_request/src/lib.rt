@@ -1,4 +1,4 @@
-// A request for callers in Rattle, on a state that passed the tests of refusals 1 to 7, which it keeps. Only bank, thread and tick are tested.
+// A request for callers in Rattle, on a state that passed the tests of refusals 1 to 7 and 16, which it keeps. Only bank, thread and tick are tested.
 use head::Head;
 use refusal::place_refusal;
 use rules::Answer;

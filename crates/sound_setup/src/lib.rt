@@ -1,4 +1,4 @@
-// Set-up for callers in Rattle that own their memory. Where it is not refused, the state passes the tests of refusals 1 to 7.
+// Set-up for callers in Rattle that own their memory. Where it is not refused, the state passes the tests of refusals 1 to 7 and 16.
 use head::Head;
 use refusal::setup_refusal;
 use rules::Setting;

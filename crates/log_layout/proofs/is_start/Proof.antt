@@ -10,6 +10,9 @@ byte-requires c κs = search needs
 byte-requires-2 : tie.Need-byte-requires-2
 byte-requires-2 c κs = search needs
 
+is-known-requires : tie.Need-is-known-requires
+is-known-requires c κs = search needs
+
 and-requires : tie.Need-and-requires
 and-requires c κs = search needs
 
@@ -22,9 +25,10 @@ and-requires-2 c κs = search needs
 returns : tie.Need-returns
 unfolding startLaidOut
 returns c =
-    let counted = c .before .before in
-    let marked = counted .before in
-    simp (c .and2 .ensures, c .before .are-zero .ensures, counted .and .ensures, marked .byte2 .ensures .0, marked .before .byte .ensures .0)
+    let tested = c .before .before in
+    let marked = tested .before in
+    let mark = marked .before in
+    simp (c .and2 .ensures, c .before .are-zero .ensures, tested .and .ensures, marked .is-known .ensures, mark .byte2 .ensures .0, mark .before .byte .ensures .0)
 
 pub is-start-spec : {M : Type 1} → statement M
 is-start-spec =
@@ -32,6 +36,7 @@ is-start-spec =
     (tie.spec
     byte-requires
     byte-requires-2
+    is-known-requires
     and-requires
     are-zero-requires
     and-requires-2

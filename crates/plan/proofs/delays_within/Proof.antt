@@ -31,12 +31,13 @@ last c =
     ∙ ap (λ (p : Profile). min (a .greatest) (p .history / 4 * a .s .tfaw)) (named c .profile .ensures)
     ∙ ap (λ (x : ℕ). min x (profileOf (a .s .profile) .history / 4 * a .s .tfaw)) (named c .before .pre .2)
 
--- so many banks are within the profile
-abbrev tested : tie.Else1 → tie.After-smaller
-tested c = c .before .before .before
+-- from the test of the banks: where the last delay is known
+abbrev known : tie.After-struct-known4 → tie.After-smaller
+known c = c .before .before
 
-banks : (c : tie.Else1) → s (tested c) .banks ≤ profileOf (s (tested c) .profile) .banks
-banks c = rw (named (tested c) .profile .ensures) at (c .if1 .left)
+-- so many banks are within the profile
+banks : (c : tie.Else1) → let k = known (c .before) in s k .banks ≤ profileOf (s k .profile) .banks
+banks c = rw (named (known (c .before)) .profile .ensures) at (c .if1 .left)
 
 profile-requires : tie.Need-profile-requires
 profile-requires c κs = search needs
@@ -51,20 +52,18 @@ smaller-requires c κs = search needs
 
 returns : tie.Need-returns
 unfolding delaysWithin
-returns c =
-    let k = c .before .before .before in
-    simp (lt-leb _ _ (rw (named k .profile .ensures) at (c .if1 .taken)))
+returns c = simp (lt-leb _ _ (rw (named (known (c .before)) .profile .ensures) at (c .if1 .taken)))
 
 returns-2 : tie.Need-returns-2
 unfolding delaysWithin
 returns-2 c =
-    let k = tested (c .before) in
+    let k = known (c .before .before) in
     simp (le-leb _ _ (banks (c .before)), ← last k, ← named k .before .pre .1, lt-leb _ _ (c .if2 .taken))
 
 returns-3 : tie.Need-returns-3
 unfolding delaysWithin
 returns-3 c =
-    let k = tested (c .before) in
+    let k = known (c .before .before) in
     simp (le-leb _ _ (banks (c .before)), ← last k, ← named k .before .pre .1, le-leb _ _ (c .if2 .left))
 
 pub delays-within-spec : {M : Type 1} → statement M

@@ -19,7 +19,7 @@ s c = settingOf (c .args .setting .now)
 abbrev h : tie.Start → Head
 h c = headOf (c .args .head .now)
 
--- refusals 1 to 7, and those after them
+-- refusals 1 to 7 and 16, and those after them
 abbrev front : tie.Start → Refusal
 front c = let a = c .args in lentTest (a .m) (s c) (a .seeds .now) (h c) (a .counters) (a .ticks .now) (a .rows) (a .threads) true
 

@@ -16,14 +16,14 @@ use Rattle.refusal.proofs.done_refusal.Tie as tie
 abbrev s : tie.Start → Setting
 s c = settingOf (c .args .setting .now)
 
--- refusals 1 to 9, and 10
+-- refusals 1 to 9 and 16, and 10
 abbrev front : tie.Start → Refusal
 front c = let a = c .args in callTest (a .m) (s c) (a .seeds .now) (headOf (a .head .now)) (a .counters) (a .ticks .now) (a .rows) (length (a .threads .now)) (a .tick) (a .bank) (a .thread)
 
 abbrev last : tie.Start → Refusal
 last c = let a = c .args in refuse (eqb (getD (a .threads .now) (threadCell (s c) (a .bank) (a .thread) 2) 0) 0) noneInFlight none
 
--- the start, from where refusals 1 to 9 are passed
+-- the start, from where refusals 1 to 9 and 16 are passed
 abbrev begun : tie.Else1 → tie.Start
 begun c = (c .before .before .before .before .before)
 

@@ -22,14 +22,14 @@ s c = settingOf (c .args .setting .now)
 abbrev h : tie.Start → Head
 h c = headOf (c .args .head .now)
 
--- refusals 1 to 6, and with 7
+-- refusals 1 to 6 and 16, and with 7
 abbrev front : tie.Start → Refusal
 front c = let a = c .args in setupTest (a .m) (s c) (a .seeds .now) (a .counters) (length (a .ticks .now)) (a .rows) (a .threads)
 
 abbrev all : tie.Start → Bool → Refusal
 all c keeps = let a = c .args in lentTest (a .m) (s c) (a .seeds .now) (h c) (a .counters) (a .ticks .now) (a .rows) (a .threads) keeps
 
--- the start, from where the code of 1 to 6 is known and from where it is 0
+-- the start, from where the code of these is known and from where it is 0
 abbrev asked : tie.After-setup-refusal → tie.Start
 asked c = (c .before .before .before .before)
 

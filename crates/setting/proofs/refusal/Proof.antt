@@ -16,24 +16,31 @@ use borrow.Author.Needs.{needs}
 use Rattle.setting.proofs.refusal.Statement.{statement}
 use Rattle.setting.proofs.refusal.Tie as tie
 
--- the arguments, after the test of refusal 1 and where H is known
+-- the start, and the arguments after the test of refusal 1
+abbrev start : tie.After-and → tie.Start
+start c = c .before .before .before .before
+
 abbrev m : tie.Else1 → Limits
-m c = c .before .before .before .before .before .args .m
+m c = start (c .before) .args .m
 
 abbrev s : tie.Else1 → Setting
-s c = c .before .before .before .before .before .args .s
+s c = start (c .before) .args .s
 
 abbrev seeds : tie.Else1 → List ℕ
-seeds c = c .before .before .before .before .before .args .seeds .now
+seeds c = start (c .before) .args .seeds .now
+
+-- from where H is known: the places of the tests of 2 and 3, and that of the test of 1
+abbrev window : tie.After-history-length → tie.After-short-window
+window c = c .before .before .before .before
 
 abbrev first : tie.After-history-length → tie.Else1
-first c = (c .before .before .before .before .before)
+first c = window c .before
 
 -- the test of refusal 1, as the code has computed it
-tested : (c : tie.After-and) → let a = c .before .before .before .before .args in c .and .result ≡ inRange (a .m) (a .s) (a .seeds .now)
+tested : (c : tie.After-and) → let a = start c .args in c .and .result ≡ inRange (a .m) (a .s) (a .seeds .now)
 tested c = rw (← c .before .before .fields-in-range .ensures, ← c .before .seeds-in-range .ensures) (c .and .ensures)
 
-out : (c : tie.Then1) → let a = c .before .before .before .before .before .args in inRange (a .m) (a .s) (a .seeds .now) ≡ false
+out : (c : tie.Then1) → let a = start (c .before) .args in inRange (a .m) (a .s) (a .seeds .now) ≡ false
 out c = sym (tested (c .before)) ∙ not-true _ (c .if1 .taken)
 
 inside : (c : tie.Else1) → inRange (m c) (s c) (seeds c) ≡ true
@@ -43,8 +50,8 @@ ok : (c : tie.Else1) → Ranges (m c) (s c)
 ok c = in-ranges (m c) (s c) (seeds c) (inside c)
 
 -- refusals 1, 2 and 3 do not apply
-window : (c : tie.After-history-length) → let x = s (first c) in 2 * x .n * x .trc ≤ x .w - 1
-window c = ltb-false _ _ (sym (c .before .before .before .before .short-window .ensures) ∙ c .before .before .if2 .left)
+room : (c : tie.After-history-length) → let x = s (first c) in 2 * x .n * x .trc ≤ x .w - 1
+room c = ltb-false _ _ (sym (window c .short-window .ensures) ∙ c .before .before .if2 .left)
 
 -- 16, for the profile that the mark names
 abbrev own : Setting → Refusal
@@ -54,7 +61,9 @@ left : (c : tie.After-history-length) → let x = s (first c) in
     settingRefusal (m (first c)) x (seeds (first c))
     ≡ refuse (ltb (m (first c) .history) (historyLength x)) longHistory (refuse (ltb (x .l) (rowBound x)) aboveLimit (own x))
 unfolding settingRefusal
-left c = simp (inside (first c), ← c .before .before .before .before .short-window .ensures, c .before .before .if2 .left, ← c .before .before .before .bad-delay .ensures, c .before .if3 .left)
+left c =
+    let late = c .before in
+    simp (inside (first c), ← window c .short-window .ensures, late .before .if2 .left, ← late .before .before .bad-delay .ensures, late .if3 .left)
 
 fields-in-range-requires : tie.Need-fields-in-range-requires
 fields-in-range-requires c κs = search needs
@@ -93,8 +102,9 @@ returns-4 c =
 
 above-limit-requires : tie.Need-above-limit-requires
 above-limit-requires c κs =
-    let k = ok (c .before .before .before .before .before .before .before) in
-    (k .td-low, k .td-high, omega arith, omega arith, k .l-high, window (c .before .before), k .w-high)
+    let at = c .before .before in
+    let k = ok (first at) in
+    (k .td-low, k .td-high, omega arith, omega arith, k .l-high, room at, k .w-high)
 
 profile-requires : tie.Need-profile-requires
 profile-requires c κs = search needs

@@ -34,13 +34,17 @@ and-within-requires-7 c κs = search needs
 and-within-requires-8 : tie.Need-and-within-requires-8
 and-within-requires-8 c κs = search needs
 
+is-known-requires : tie.Need-is-known-requires
+is-known-requires c κs = search needs
+
 and-requires-2 : tie.Need-and-requires-2
 and-requires-2 c κs = search needs
 
 returns : tie.Need-returns
 unfolding fieldsInRange
 returns c =
-    let k8 = c .before .before in
+    let marked = c .before in
+    let k8 = marked .before in
     let k7 = k8 .before in
     let k6 = k7 .before in
     let k5 = k6 .before in
@@ -51,6 +55,7 @@ returns c =
     let w = k1 .before in
     simp (
       c .and2 .ensures,
+      marked .is-known .ensures,
       k8 .and-within8 .ensures,
       k7 .and-within7 .ensures,
       k6 .and-within6 .ensures,
@@ -77,5 +82,6 @@ fields-in-range-spec =
     and-within-requires-6
     and-within-requires-7
     and-within-requires-8
+    is-known-requires
     and-requires-2
     returns)

@@ -1,5 +1,5 @@
 -- `setting::profile`: mark 1 has the limits of the small card, any other those of the large one.
-use mathlib.Core.Path.{_≡_, refl, sym}
+use mathlib.Core.Path.{_≡_, refl}
 use mathlib.Core.Logic.{_≢_}
 use Prim.Native.Nat.{ℕ, zero, suc}
 use Rattle.rules.specs.Setting.{large, profileOf}

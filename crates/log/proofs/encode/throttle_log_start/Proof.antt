@@ -12,7 +12,7 @@ use Rattle.log.proofs.encode.throttle_log_start.Tie as tie
 
 -- the arguments, where the test is made
 abbrev start : tie.After-and2 → tie.Start
-start c = c .before .before .before .before .before
+start c = c .before .before .before .before .before .before
 
 abbrev setting : tie.After-and2 → List ℕ
 setting c = start c .args .setting .now
@@ -23,7 +23,9 @@ seeds c = start c .args .seeds .now
 -- the test of the code is that of the definition
 tested : (c : tie.After-and2) → c .and2 .result ≡ startFits (setting c) (seeds c)
 unfolding startFits
-tested c = simp (c .and2 .ensures, c .before .and .ensures, c .before .before .setting-fits .ensures)
+tested c =
+    let marked = c .before .before in
+    simp (c .and2 .ensures, c .before .and .ensures, marked .is-known .ensures, marked .before .setting-fits .ensures)
 
 fits : (c : tie.Else1) → startFits (setting (c .before)) (seeds (c .before)) ≡ true
 fits c = sym (tested (c .before)) ∙ not-false _ (c .if1 .left)
@@ -33,6 +35,9 @@ element-copy-out-mark c = search needs
 
 setting-fits-requires : tie.Need-setting-fits-requires
 setting-fits-requires c κs = search needs
+
+is-known-requires : tie.Need-is-known-requires
+is-known-requires c κs = search needs
 
 and-requires : tie.Need-and-requires
 and-requires c κs = search needs
@@ -69,6 +74,7 @@ throttle-log-start-spec =
     (tie.spec
     element-copy-out-mark
     setting-fits-requires
+    is-known-requires
     and-requires
     and-requires-2
     returns
