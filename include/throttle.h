@@ -51,7 +51,7 @@ struct throttle_setting {
                          as the controller may have of one thread */
     uint64_t banks;   /* 1 to 16, each of 65,536 rows */
     uint64_t threads; /* 1 to 32 */
-    uint64_t profile; /* THROTTLE_PROFILE_LARGE or THROTTLE_PROFILE_SMALL */
+    uint64_t profile; /* 0 or 1: THROTTLE_PROFILE_LARGE or THROTTLE_PROFILE_SMALL */
 };
 
 /*
@@ -212,7 +212,8 @@ static inline size_t throttle_thread_cells(const struct throttle_setting *s)
  */
 enum throttle_refusal {
     THROTTLE_ANSWERED = 0,
-    THROTTLE_OUT_OF_RANGE = 1,     /* a field or seed out of range, W odd, or not 64 seeds */
+    THROTTLE_OUT_OF_RANGE = 1,     /* a field or seed out of range, W odd, a profile above 1, or
+                                      not 64 seeds */
     THROTTLE_SHORT_WINDOW = 2,     /* W - 1 < 2 x N x tRC */
     THROTTLE_BAD_DELAY = 3,        /* tD below tRC or above E */
     THROTTLE_LONG_HISTORY = 4,     /* H above 4,096 */

@@ -44,7 +44,7 @@ static void check_planner(void)
     uint64_t delays[THROTTLE_DELAYS_OUT] = {0, 0};
     throttle_words(&s, setting);
     for (uint64_t mark = THROTTLE_PROFILE_LARGE; mark <= THROTTLE_PROFILE_SMALL; mark++) {
-        setting[9] = mark;
+        setting[THROTTLE_SETTING_WORDS - 1] = mark;
         check(throttle_delays(setting, delays) == 0, "throttle_delays refuses the setting");
         check(delays[0] == 6 && delays[1] == 20, "throttle_delays does not answer 6 and 20");
     }
@@ -62,7 +62,7 @@ static void check_throttle(uint64_t mark)
     static uint16_t counters[2048];
     static uint32_t rows[8], threads[3];
     uint64_t answer[THROTTLE_REQUEST_OUT] = {9, 9, 9};
-    setting[9] = mark;
+    setting[THROTTLE_SETTING_WORDS - 1] = mark;
     check(throttle_setup(setting, seeds, THROTTLE_SEEDS, head, counters, 2048, ticks, 8, rows, 8, threads, 3) == 0,
           "throttle_setup refuses the setting");
     check(throttle_request(setting, seeds, THROTTLE_SEEDS, head, counters, 2048, ticks, 8, rows, 8, threads, 3, 0, 0, 0, 5,
@@ -90,17 +90,17 @@ static void check_log(const uint8_t sample[THROTTLE_LOG_BLOCK])
     static const uint64_t wrong[] = {2, 3, 255, 256, UINT64_C(1) << 32, (UINT64_C(1) << 32) + 1, UINT64_MAX};
     uint8_t written[THROTTLE_LOG_BLOCK] = {0}, wanted[THROTTLE_LOG_BLOCK];
     memcpy(wanted, sample, sizeof wanted);
-    setting[9] = THROTTLE_PROFILE_LARGE;
+    setting[THROTTLE_SETTING_WORDS - 1] = THROTTLE_PROFILE_LARGE;
     check(throttle_log_start(setting, seeds, THROTTLE_SEEDS, written) == 0, "throttle_log_start refuses the setting");
     check(memcmp(written, wanted, sizeof written) == 0, "throttle_log_start does not write the sample's first block");
-    setting[9] = THROTTLE_PROFILE_SMALL;
+    setting[THROTTLE_SETTING_WORDS - 1] = THROTTLE_PROFILE_SMALL;
     wanted[172] = 1;
     add_to_sum(wanted + 508, 1);
     add_to_sum(wanted + 510, 173);
     check(throttle_log_start(setting, seeds, THROTTLE_SEEDS, written) == 0, "throttle_log_start refuses the small profile");
     check(memcmp(written, wanted, sizeof written) == 0, "throttle_log_start does not write the mark at byte 172");
     for (size_t k = 0; k < sizeof wrong / sizeof *wrong; k++) {
-        setting[9] = wrong[k];
+        setting[THROTTLE_SETTING_WORDS - 1] = wrong[k];
         check(throttle_log_start(setting, seeds, THROTTLE_SEEDS, written) == THROTTLE_OUT_OF_RANGE,
               "throttle_log_start takes a mark above 1");
         check(memcmp(written, wanted, sizeof written) == 0, "a refused throttle_log_start writes to the block");

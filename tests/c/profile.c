@@ -191,12 +191,12 @@ static void before_the_others(void)
         start(&w, FIVE, THROTTLE_PROFILE_LARGE);
         *lengths[k] = 0;
         CHECK(refused(&w, THROTTLE_SHORT_BUFFER, 0, 9, 9));
-        w.words[9] = THROTTLE_PROFILE_SMALL;
+        w.words[THROTTLE_SETTING_WORDS - 1] = THROTTLE_PROFILE_SMALL;
         CHECK(refused(&w, THROTTLE_ABOVE_PROFILE, 0, 9, 9));
     }
     start(&w, FIVE, THROTTLE_PROFILE_LARGE);
     CHECK(reading(&w.m, 0, 9, 9) == THROTTLE_BAD_MEMORY);
-    w.words[9] = THROTTLE_PROFILE_SMALL;
+    w.words[THROTTLE_SETTING_WORDS - 1] = THROTTLE_PROFILE_SMALL;
     CHECK(refused(&w, THROTTLE_ABOVE_PROFILE, 0, 9, 9));
     CHECK(refused(&w, THROTTLE_ABOVE_PROFILE, UINT64_MAX, 0, 0));
 }
@@ -207,12 +207,12 @@ static void marked_later(void)
     static struct whole w;
     start(&w, FIVE, THROTTLE_PROFILE_LARGE);
     CHECK(setup(&w.m) == 0 && request(&w.m, 3, 4, 0, 5) == 0 && w.out[0] == THROTTLE_OPENED);
-    w.words[9] = THROTTLE_PROFILE_SMALL;
+    w.words[THROTTLE_SETTING_WORDS - 1] = THROTTLE_PROFILE_SMALL;
     CHECK(refused(&w, THROTTLE_ABOVE_PROFILE, 4, 4, 0));
     CHECK(refused(&w, THROTTLE_ABOVE_PROFILE, 400, 0, 0));
-    w.words[9] = 2;
+    w.words[THROTTLE_SETTING_WORDS - 1] = 2;
     CHECK(refused(&w, THROTTLE_OUT_OF_RANGE, 4, 4, 0));
-    w.words[9] = THROTTLE_PROFILE_LARGE;
+    w.words[THROTTLE_SETTING_WORDS - 1] = THROTTLE_PROFILE_LARGE;
     CHECK(done(&w.m, 3, 4, 0) == 0 && done(&w.m, 3, 4, 0) == THROTTLE_NONE_IN_FLIGHT);
 }
 

@@ -226,7 +226,7 @@ fn main() -> io::Result<()> {
         .map(|word| word.parse().expect("a number"))
         .collect();
     let [seed, records, start, keys, setting @ ..] = words.as_slice() else {
-        panic!("STYLE SEED RECORDS START KEYS and the nine numbers of a setting");
+        panic!("STYLE SEED RECORDS START KEYS, the nine numbers of a setting and, if it is not 0, its mark");
     };
     let setting = with_mark(setting);
     let mut numbers = Numbers(*seed);
