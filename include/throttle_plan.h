@@ -30,7 +30,8 @@ enum { THROTTLE_DELAYS_OUT = 2 };
  *   4  the smallest delay with B <= L needs more than 4,096 history cells
  *   5  B > L with every delay from 1 to 2^29
  *  16  some delay is accepted under the large profile, and none under the small
- *      one, which the setting names
+ *      one, which the setting names; also where the smallest delay with B <= L
+ *      is below tRC
  */
 THROTTLE_CHECKED
 uint32_t throttle_delays(const uint64_t setting[THROTTLE_LEAST THROTTLE_SETTING_WORDS],

@@ -26,7 +26,7 @@ use Rattle.log_format.specs.Blocks.{checked, startLaidOut, laidOut, blockRefusa
 use Rattle.log_format.specs.Verdict.{Verdict, refusedAfter, over, memory, judgeStart, judgeSound, judgeBlock, judgeBlocks, unread, verdict}
 use Rattle.log_format.proofs.Judged.{block-sound}
 use Rattle.log_format.proofs.Agrees.{blocks-first}
-use Rattle.policies.specs.Claims.{startLaidOut01, WrittenBefore, OtherMark, SettingRefused}
+use Rattle.policies.specs.Claims.{startLaidOut01, WrittenBefore, OtherMarkInLog, SettingRefused}
 
 -- ---- the first of a row of tests by itself
 
@@ -71,9 +71,9 @@ mark-refused : (s : List ℕ) → checked s ≡ true → 2 ≤ markIn s → bloc
 unfolding startLaidOut laidOut blockRefusal
 mark-refused s c h = rw (c, le-ltb (markIn s) 2 h, and-false (eqb (countIn s) 0), and-false (eqb (little s 0 4) 0 && zeros s 5 3))
 
-pub other-mark : (p : Policy) → OtherMark p
+pub other-mark-in-log : (p : Policy) → OtherMarkInLog p
 unfolding unread judgeBlock
-other-mark p bytes some c h = first-block p bytes some (refusedAfter badContents 0) (rw (mark-refused (blockAt bytes 0) c h))
+other-mark-in-log p bytes some c h = first-block p bytes some (refusedAfter badContents 0) (rw (mark-refused (blockAt bytes 0) c h))
 
 -- a sound block 0 with a setting that is refused
 setup-refused : (m : Limits) (s : Setting) (seeds : List ℕ) (st : State) → settingRefusal m s seeds ≢ none → setupRefusal m s seeds st ≡ settingRefusal m s seeds

@@ -2,7 +2,7 @@
 use Rattle.policies.specs.Claims.{Theorems}
 use Rattle.policies.proofs.Differs.{differs-at-first}
 use Rattle.policies.proofs.Change.{after-change, after-rounding, after-total, since-document01}
-use Rattle.policies.proofs.Marks.{written-before, other-mark, setting-refused}
+use Rattle.policies.proofs.Marks.{written-before, other-mark-in-log, setting-refused}
 
 pub theorems : Theorems
 theorems =
@@ -13,6 +13,6 @@ theorems =
       afterTotal = after-total;
       sinceDocument01 = since-document01;
       writtenBefore = written-before;
-      otherMark = other-mark;
+      otherMarkInLog = other-mark-in-log;
       settingRefused = setting-refused;
     }

@@ -127,8 +127,8 @@ pub record WrittenBefore : Type 0 where
   pub refusals : (m : Limits) (s seeds : List ℕ) → markIn s ≡ 0 → settingRefusal m (settingIn s) seeds ≡ refusal01 m (settingIn s) seeds
 
 -- "Any other mark is .. 13 in a log": of a log whose block 0 has right sums, whatever its setting is.
-abbrev pub OtherMark : Policy → Type 0
-OtherMark p =
+abbrev pub OtherMarkInLog : Policy → Type 0
+OtherMarkInLog p =
     (bytes : List ℕ) → 1 ≤ length bytes / 512 → checked (blockAt bytes 0) ≡ true → 2 ≤ markIn (blockAt bytes 0)
     → verdict p bytes ≡ refusedAfter badContents 0
 
@@ -148,5 +148,5 @@ pub record Theorems : Type 0 where
   pub afterTotal : AfterTotal
   pub sinceDocument01 : SinceDocument01
   pub writtenBefore : WrittenBefore
-  pub otherMark : (p : Policy) → OtherMark p
+  pub otherMarkInLog : (p : Policy) → OtherMarkInLog p
   pub settingRefused : (p : Policy) → SettingRefused p

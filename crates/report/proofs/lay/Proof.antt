@@ -19,9 +19,12 @@ same-length c = search needs
 
 returns : tie.Need-returns
 returns c =
-    let q = c .before .before .put-line-of-two .ensures in
-    let p = c .before .before .before .before .before .before .before .before .before .pre in
-    laid _ _ _ (omega (arith, q, c .before .before .put-line-of-two .kept)) (refused-text (c .before .before .before .before .before .before .before .before .before .args .report) _ _ _ (c .before .before .before .before .before .before .report .given .1) (q .1))
+    let put = c .before .before in
+    let known = put .before .before .before .before in
+    let start = known .before .before .before in
+    let q = put .put-line-of-two .ensures in
+    let p = start .pre in
+    laid _ _ _ (omega (arith, q, put .put-line-of-two .kept)) (refused-text (start .args .report) _ _ _ (known .report .given .1) (q .1))
 
 enum-known-report-2 : tie.Need-enum-known-report-2
 enum-known-report-2 c = search needs
@@ -40,10 +43,14 @@ same-length-2 c = search needs
 
 returns-2 : tie.Need-returns-2
 returns-2 c =
-    let q = c .before .before .put .ensures in
-    let k = c .before .before .before .before .before .before .before .put-counts .ensures in
-    let p = c .before .before .before .before .before .before .before .before .before .before .before .before .before .pre in
-    laid _ _ _ (omega (arith, q, c .before .before .put .kept, c .before .before .before .before .before .before .before .put-counts .kept)) (agrees-text (c .before .before .before .before .before .before .before .before .before .before .before .before .before .args .report) _ _ _ _ (c .before .before .before .before .before .before .before .before .before .before .report2 .given .1) (k .1) (q .1))
+    let last = c .before .before in
+    let counted = last .before .before .before .before .before in
+    let known = counted .before .before .before in
+    let start = known .before .before .before in
+    let q = last .put .ensures in
+    let k = counted .put-counts .ensures in
+    let p = start .pre in
+    laid _ _ _ (omega (arith, q, last .put .kept, counted .put-counts .kept)) (agrees-text (start .args .report) _ _ _ _ (known .report2 .given .1) (k .1) (q .1))
 
 enum-known-report-3 : tie.Need-enum-known-report-3
 enum-known-report-3 c = search needs
@@ -62,10 +69,14 @@ same-length-3 c = search needs
 
 returns-3 : tie.Need-returns-3
 returns-3 c =
-    let q = c .before .before .put-line-of-two2 .ensures in
-    let k = c .before .before .before .before .before .before .before .put-counts2 .ensures in
-    let p = c .before .before .before .before .before .before .before .before .before .before .before .before .before .pre in
-    laid _ _ _ (omega (arith, q, c .before .before .put-line-of-two2 .kept, c .before .before .before .before .before .before .before .put-counts2 .kept)) (differs-text (c .before .before .before .before .before .before .before .before .before .before .before .before .before .args .report) _ _ _ _ _ _ (c .before .before .before .before .before .before .before .before .before .before .report3 .given .1) (k .1) (q .1))
+    let last = c .before .before in
+    let counted = last .before .before .before .before .before in
+    let known = counted .before .before .before in
+    let start = known .before .before .before in
+    let q = last .put-line-of-two2 .ensures in
+    let k = counted .put-counts2 .ensures in
+    let p = start .pre in
+    laid _ _ _ (omega (arith, q, last .put-line-of-two2 .kept, counted .put-counts2 .kept)) (differs-text (start .args .report) _ _ _ _ _ _ (known .report3 .given .1) (k .1) (q .1))
 
 pub lay-spec : {M : Type 1} → statement M
 lay-spec =
