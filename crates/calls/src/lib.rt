@@ -24,6 +24,7 @@ ghost use Rattle.rules.specs.Policy.{limits01, narrow};
 ghost use Rattle.rules.specs.Tested.{Sound};
 ghost use Rattle.rules.specs.Calls.{answered, callRefusal, outcome, requested, oneLess};
 ghost use Rattle.state.specs.Ready.{Bounds};
+ghost use Rattle.hash_words.specs.Words.{TableFor};
 
 // The answer to a request, with the head after it.
 pub struct Decided {
@@ -31,9 +32,11 @@ pub struct Decided {
     pub head: Head,
 }
 
-// Decides on a request and, where it is opened, makes the activation. stored is the bank's cell of the head.
+// Decides on a request and, where it is opened, makes the activation. stored is the bank's cell of the head; `table` says that the seeds are the
+// house seeds.
 pub fn request(
     s: Setting,
+    table: bool,
     seeds: &[u16],
     h: Head,
     stored: u64,
@@ -46,12 +49,12 @@ pub fn request(
     thread: u64,
     row: u16,
 ) -> Decided
-    requires { ⌜ (callRefusal limits01 s (now seeds) (state h (now counters) (now ticks) (now rows) (now threads)) tick bank thread ≡ none) × (stored ≡ getD (h .bank) bank 0) ⌝ }
+    requires { ⌜ (callRefusal limits01 s (now seeds) (state h (now counters) (now ticks) (now rows) (now threads)) tick bank thread ≡ none) × (stored ≡ getD (h .bank) bank 0) × TableFor table (now seeds) ⌝ }
     ensures { λ r. ⌜ (outcome (answered (r .answer)) (state (r .head) (now (counters .exit)) (now (ticks .exit)) (now (rows .exit)) (now (threads .exit))) ≡ requested narrow s (λ f. places (now (seeds .entry)) row) (turned s (state h (now (counters .entry)) (now (ticks .entry)) (now (rows .entry)) (now (threads .entry))) tick) bank thread row) × Sound s (state (r .head) (now (counters .exit)) (now (ticks .exit)) (now (rows .exit)) (now (threads .exit))) ⌝ }
 {
     let x = turn(s, h, counters, threads, tick);
     let moved = x.head;
-    let four = hash::places(seeds, row);
+    let four = hash::places(table, seeds, row);
     let v = look(
         s,
         moved,

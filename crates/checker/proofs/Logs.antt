@@ -15,9 +15,8 @@ use Rattle.log_format.proofs.Steps.{blocks-step}
 use Rattle.tally.specs.declared.Progress.{Progress}
 use Rattle.tally.specs.declared.Report.{Report}
 use Rattle.tally.specs.declared.Report.the-variants.{Refused, Agrees}
-use Rattle.checker_reading.specs.declared.Reading.{Reading}
 use Rattle.judge.specs.Follow.{progressOf, reportOf, Follows}
-use Rattle.checker_reading.specs.Blocks.{readSoFar, Ready, JudgedBlock}
+use Rattle.checker_reading.specs.Blocks.{Ready, JudgedBlock}
 use Rattle.checker_records.proofs.Steps.{not-both}
 use Rattle.rules.specs.Policy.{limits01, narrow}
 
@@ -35,10 +34,9 @@ unfolding judgeBlocks
 unread-blocks x [] whole e m = rw e
 unread-blocks x (s ∷ ss) whole e m = rw (unread-block x s e m)
 
-pub start-ready : (x : Reading) → progressOf (x .progress) ≡ (unread limits01) .progress
-    → (counters ticks rows threads : List ℕ) → Ready (readSoFar x counters ticks rows threads)
+pub start-ready : (x : Running) → x .progress ≡ (unread limits01) .progress → Ready x
 unfolding unread
-start-ready x e counters ticks rows threads =
+start-ready x e =
     let z : x .progress .blocks ≡ 0 = ap (λ p. p .blocks) e in
     let r : x .progress .records ≡ 0 = ap (λ p. p .records) e in
     let o : x .progress .opened ≡ 0 = ap (λ p. p .opened) e in

@@ -6,6 +6,7 @@ ghost use Prim.Native.Nat.{_^_, _≤_, _<_};
 ghost use Rattle.rules.specs.Policy.{narrow};
 ghost use Rattle.log_format.specs.Contents.{countIn};
 ghost use Rattle.log_format.specs.Verdict.{judgeLater};
+ghost use Rattle.hash_words.specs.Words.{TableFor};
 ghost use Rattle.checker_reading.specs.Blocks.{readSoFar, Ready, JudgedBlock};
 
 // A later block: its records, none of which is counted yet.
@@ -17,12 +18,13 @@ pub fn judge_later(
     threads: &mut [u32],
     block: &[u8; 512],
 ) -> Next
-    requires { ⌜ Ready (readSoFar x (now counters) (now ticks) (now rows) (now threads)) × (1 ≤ x .progress .blocks) × (x .progress .blocks < 2 ^ 32) × (countIn (now block) ≤ 20) ⌝ }
-    ensures { λ r. ⌜ JudgedBlock (x .progress .blocks) (r .over) (r .report) (readSoFar (r .reading) (now (counters .exit)) (now (ticks .exit)) (now (rows .exit)) (now (threads .exit))) (judgeLater narrow (readSoFar x (now (counters .entry)) (now (ticks .entry)) (now (rows .entry)) (now (threads .entry))) (now (block .entry))) ⌝ }
+    requires { ⌜ Ready (readSoFar x (now counters) (now ticks) (now rows) (now threads)) × (1 ≤ x .progress .blocks) × (x .progress .blocks < 2 ^ 32) × (countIn (now block) ≤ 20) × TableFor (x .table) (x .seeds) ⌝ }
+    ensures { λ r. ⌜ JudgedBlock (x .progress .blocks) (r .over) (r .report) (readSoFar (r .reading) (now (counters .exit)) (now (ticks .exit)) (now (rows .exit)) (now (threads .exit))) (judgeLater narrow (readSoFar x (now (counters .entry)) (now (ticks .entry)) (now (rows .entry)) (now (threads .entry))) (now (block .entry))) × TableFor (r .reading .table) (r .reading .seeds) ⌝ }
 {
     let p = x.progress;
     let setting = x.setting;
     let seeds = x.seeds;
+    let table = x.table;
     let h = x.head;
     let none = Progress {
         blocks: p.blocks,
@@ -32,6 +34,7 @@ pub fn judge_later(
     };
     let r = checker_records::judge_records(
         setting,
+        table,
         &seeds,
         h,
         counters,
@@ -57,6 +60,7 @@ pub fn judge_later(
             progress,
             setting,
             seeds,
+            table,
             head,
         },
     }

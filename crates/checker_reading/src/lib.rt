@@ -5,11 +5,13 @@ use rules::Setting;
 use tally::Progress;
 use tally::Report;
 
-// A log that is read so far: the progress, the setting and the seeds of block 0, and the head of the model. The caller lends the buffers.
+// A log that is read so far: the progress, the setting and the seeds of block 0, whether these are the house seeds (`table`), and the head of the
+// model. The caller lends the buffers.
 pub struct Reading {
     pub progress: Progress,
     pub setting: Setting,
     pub seeds: [u16; 64],
+    pub table: bool,
     pub head: Head,
 }
 

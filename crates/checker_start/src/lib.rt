@@ -1,13 +1,15 @@
 // Block 0 of a log, known to be sound: its setting and seeds, with which the model is set up through the contract of set-up.
 use checker_reading::Next;
 use checker_reading::Reading;
+use house_seeds::difference;
 use tally::Progress;
 use tally::Report;
 ghost use Rattle.rules.specs.Policy.{narrow};
 ghost use Rattle.log_format.specs.Verdict.{judgeStart};
+ghost use Rattle.hash_words.specs.Words.{TableFor};
 ghost use Rattle.checker_reading.specs.Blocks.{readSoFar, JudgedBlock};
 
-// Block 0: set-up with its setting and seeds.
+// Block 0: set-up with its setting and seeds, and whether they are the house seeds, which no later block asks again.
 pub fn judge_start(
     x: Reading,
     counters: &mut [u16],
@@ -16,11 +18,12 @@ pub fn judge_start(
     threads: &mut [u32],
     block: &[u8; 512],
 ) -> Next
-    ensures { λ r. ⌜ JudgedBlock 0 (r .over) (r .report) (readSoFar (r .reading) (now (counters .exit)) (now (ticks .exit)) (now (rows .exit)) (now (threads .exit))) (judgeStart narrow (readSoFar x (now (counters .entry)) (now (ticks .entry)) (now (rows .entry)) (now (threads .entry))) (now (block .entry))) ⌝ }
+    ensures { λ r. ⌜ JudgedBlock 0 (r .over) (r .report) (readSoFar (r .reading) (now (counters .exit)) (now (ticks .exit)) (now (rows .exit)) (now (threads .exit))) (judgeStart narrow (readSoFar x (now (counters .entry)) (now (ticks .entry)) (now (rows .entry)) (now (threads .entry))) (now (block .entry))) × TableFor (r .reading .table) (r .reading .seeds) ⌝ }
 {
     let s = log_read::contents::setting(block);
     let seeds = log_read::contents::seeds(block);
     let h = x.head;
+    let table = difference(&seeds) == 0;
     let q = throttle::setup(s, &seeds, h, counters, ticks, rows, threads);
     let code = q.code;
     let head = q.head;
@@ -40,6 +43,7 @@ pub fn judge_start(
             progress,
             setting: s,
             seeds,
+            table,
             head,
         },
     }

@@ -6,29 +6,15 @@ use native.Mathlib.Nat.{mod-eq-of-lt, div-div-eq-div-mul}
 use native.Mathlib.Omega.{arith}
 use lib.Pow.{pow-add}
 use lib.Bits.{bitAnd, bitXor, and-mask, and-zero-r, and-shr, and-mod, xor-shr, xor-mod}
-use Rattle.hash.specs.Lanes.{joined, lane, folded}
-use Rattle.hash.proofs.Xor.{xor-assoc, xor-swap}
+use Rattle.hash_words.specs.Lanes.{joined, lane}
+use Rattle.hash_words.proofs.Xor.{xor-assoc, xor-swap}
+use Rattle.hash_words.proofs.Lanes.{lane-xor, lanes}
+use Rattle.hash.specs.Lanes.{folded}
 
--- the operations work on each lane apart
-lane-xor : (a b k : ℕ) → lane (bitXor a b) k ≡ bitXor (lane a k) (lane b k)
-unfolding lane
-lane-xor a b k = ap (λ x. x % 2 ^ 16) (xor-shr a b k) ∙ xor-mod (a / 2 ^ k) (b / 2 ^ k) 16
-
+-- and works on each lane apart
 lane-and : (a b k : ℕ) → lane (bitAnd a b) k ≡ bitAnd (lane a k) (lane b k)
 unfolding lane
 lane-and a b k = ap (λ x. x % 2 ^ 16) (and-shr a b k) ∙ and-mod (a / 2 ^ k) (b / 2 ^ k) 16
-
--- a word and its four lanes
-record Lanes (w a b c d : ℕ) : Type 0 where
-  first : lane w 0 ≡ a
-  second : lane w 16 ≡ b
-  third : lane w 32 ≡ c
-  fourth : lane w 48 ≡ d
-
--- the lanes of four numbers of 16 bits
-lanes : (a b c d : ℕ) → a < 65536 → b < 65536 → c < 65536 → d < 65536 → Lanes (joined a b c d) a b c d
-unfolding lane
-lanes a b c d ha hb hc hd = record { first = omega arith; second = omega arith; third = omega arith; fourth = omega arith }
 
 -- a lane with all ones or 0
 full-lt : (q : Bool) → cond q 65535 0 < 65536

@@ -15,7 +15,7 @@ use Rattle.rules.specs.Filter.{Within}
 use Rattle.rules.proofs.Tests.{holds}
 use Rattle.rules.proofs.Places.{seeds-long, seed-small, hashTo-lt, places-within}
 use Rattle.hash.specs.Lanes.{spread, chosen, folded}
-use Rattle.hash.proofs.Xor.{xor-four}
+use Rattle.hash_words.proofs.Xor.{xor-four}
 use Rattle.hash.proofs.Lanes.{fold-masked, fold-xor}
 
 pub seeds-64 : (seeds : List ℕ) → seedsInRange seeds ≡ true → length seeds ≡ 64

@@ -1,18 +1,11 @@
 -- Words of four lanes, 16 bits each: what the steps of the hash compute. That their result is the rules' hash is a law (`hash-is`).
 use mathlib.Core.List.{List}
 use mathlib.Core.Bool.{cond}
-use Prim.Native.Nat.{ℕ, _+_, _*_, _/_, _%_, _^_}
+use Prim.Native.Nat.{ℕ, _+_}
 use lib.Bits.{bitAnd, bitXor}
 use lib.ListN.{getD}
 use Rattle.rules.specs.Hash.{bitSet}
-
--- four numbers in one word, the first in the lowest lane
-abbrev pub joined : ℕ → ℕ → ℕ → ℕ → ℕ
-joined a b c d = a + 65536 * b + 4294967296 * c + 281474976710656 * d
-
--- the lane of a word that starts at a bit
-unfoldable pub lane : ℕ → ℕ → ℕ
-lane w bit = w / 2 ^ bit % 2 ^ 16
+use Rattle.hash_words.specs.Lanes.{joined, lane}
 
 -- the four seeds from place i on
 abbrev pub fourSeeds : List ℕ → ℕ → ℕ

@@ -1,6 +1,8 @@
 // The H3 hash of a row: its four places in a counting Bloom filter, by four functions of 16 seeds each.
-// The sixteen seeds of a function are four words of four lanes, 16 bits each, so that the seeds are masked and joined four at a time.
-// No branch depends on the row.
+// By any seeds: the sixteen of a function are four words of four lanes, 16 bits each, so that the seeds are masked and joined four at a time.
+// By the house seeds: the exclusive or of the words that a table has for the row's two bytes. No branch depends on the row.
+use hash_high::high;
+use hash_low::low;
 ghost use mathlib.Core.Path.{_≡_};
 ghost use mathlib.Core.Bool.{true};
 ghost use Prim.Native.Nat.{_+_, _<_, _≤_, _%_};
@@ -8,7 +10,10 @@ ghost use lib.ListN.{length};
 ghost use Rattle.rules.specs.Setting.{seedsInRange};
 ghost use Rattle.rules.specs.Hash.{hash, places};
 ghost use Rattle.rules.specs.Filter.{Within};
-ghost use Rattle.hash.specs.Lanes.{joined, fourSeeds, spread, chosen, folded};
+ghost use Rattle.rules.specs.Samples.{house};
+ghost use Rattle.hash_words.specs.Lanes.{joined};
+ghost use Rattle.hash_words.specs.Words.{TableFor};
+ghost use Rattle.hash.specs.Lanes.{fourSeeds, spread, chosen, folded};
 
 // Four numbers in one word, the first in the lowest lane.
 fn join(a: u16, b: u16, c: u16, d: u16) -> u64
@@ -71,10 +76,10 @@ fn hash(seeds: &[u16], f: usize, row: u16) -> usize
     fold(a ^ b ^ c ^ d)
 }
 
-// The four places of a row in each filter, function by function.
-pub fn places(seeds: &[u16], row: u16) -> [usize; 4]
+// The four places of a row in each filter by these seeds, function by function.
+fn seed_places(seeds: &[u16], row: u16) -> [usize; 4]
     requires { ⌜ seedsInRange (now seeds) ≡ true ⌝ }
-    ensures { λ r. ⌜ (r ≡ places (now (seeds .entry)) row) × Within r ⌝ }
+    ensures { λ r. ⌜ r ≡ places (now (seeds .entry)) row ⌝ }
 {
     [
         hash(seeds, 0, row),
@@ -82,4 +87,30 @@ pub fn places(seeds: &[u16], row: u16) -> [usize; 4]
         hash(seeds, 2, row),
         hash(seeds, 3, row),
     ]
+}
+
+// The four places by the house seeds: the words of the high and the low byte, joined lane by lane.
+fn table_places(row: u16) -> [usize; 4]
+    ensures { λ r. ⌜ r ≡ places house row ⌝ }
+{
+    let bits = row as u64;
+    let w = high(bits / 256) ^ low(bits % 256);
+    [
+        (w % 65536) as usize,
+        (w / 65536 % 65536) as usize,
+        (w / 4294967296 % 65536) as usize,
+        (w / 281474976710656 % 65536) as usize,
+    ]
+}
+
+// The four places of a row in a filter that holds these seeds; from the table where `table` says that they are the house seeds.
+// It rules out: the table asked for other seeds, the bytes exchanged, and one function's word taken for another's.
+pub fn places(table: bool, seeds: &[u16], row: u16) -> [usize; 4]
+    requires { ⌜ (seedsInRange (now seeds) ≡ true) × TableFor table (now seeds) ⌝ }
+    ensures { λ r. ⌜ (r ≡ places (now (seeds .entry)) row) × Within r ⌝ }
+{
+    if table {
+        return table_places(row);
+    }
+    seed_places(seeds, row)
 }

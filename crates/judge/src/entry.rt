@@ -15,12 +15,14 @@ ghost use Rattle.rules.specs.Policy.{limits01, narrow};
 ghost use Rattle.rules.specs.Tested.{Sound};
 ghost use Rattle.rules.specs.State.{state};
 ghost use Rattle.log_format.specs.Verdict.{judgeRecord};
+ghost use Rattle.hash_words.specs.Words.{TableFor};
 ghost use Rattle.tally.specs.Settled.{Room};
 ghost use Rattle.judge.specs.Follow.{running, Judged};
 
 // A record of a request.
 fn judge_request(
     s: Setting,
+    table: bool,
     seeds: &[u16],
     h: Head,
     counters: &mut [u16],
@@ -30,11 +32,12 @@ fn judge_request(
     p: Progress,
     e: Entry,
 ) -> After
-    requires { ⌜ (settingRefusal limits01 s (now seeds) ≡ none) × Sound s (state h (now counters) (now ticks) (now rows) (now threads)) × Room p 1 × (e .kind ≡ 0) ⌝ }
+    requires { ⌜ (settingRefusal limits01 s (now seeds) ≡ none) × Sound s (state h (now counters) (now ticks) (now rows) (now threads)) × Room p 1 × (e .kind ≡ 0) × TableFor table (now seeds) ⌝ }
     ensures { λ r. ⌜ Judged s (now (seeds .entry)) p 1 r (state (r .head) (now (counters .exit)) (now (ticks .exit)) (now (rows .exit)) (now (threads .exit))) (judgeRecord narrow (running p s (now (seeds .entry)) (state h (now (counters .entry)) (now (ticks .entry)) (now (rows .entry)) (now (threads .entry)))) e) ⌝ }
 {
     let q = throttle::request(
         s,
+        table,
         seeds,
         h,
         counters,
@@ -95,6 +98,7 @@ fn judge_done(
 // A record of either kind.
 pub fn judge_record(
     s: Setting,
+    table: bool,
     seeds: &[u16],
     h: Head,
     counters: &mut [u16],
@@ -104,11 +108,11 @@ pub fn judge_record(
     p: Progress,
     e: Entry,
 ) -> After
-    requires { ⌜ (settingRefusal limits01 s (now seeds) ≡ none) × Sound s (state h (now counters) (now ticks) (now rows) (now threads)) × Room p 1 ⌝ }
+    requires { ⌜ (settingRefusal limits01 s (now seeds) ≡ none) × Sound s (state h (now counters) (now ticks) (now rows) (now threads)) × Room p 1 × TableFor table (now seeds) ⌝ }
     ensures { λ r. ⌜ Judged s (now (seeds .entry)) p 1 r (state (r .head) (now (counters .exit)) (now (ticks .exit)) (now (rows .exit)) (now (threads .exit))) (judgeRecord narrow (running p s (now (seeds .entry)) (state h (now (counters .entry)) (now (ticks .entry)) (now (rows .entry)) (now (threads .entry)))) e) ⌝ }
 {
     if e.kind == 0 {
-        return judge_request(s, seeds, h, counters, ticks, rows, threads, p, e);
+        return judge_request(s, table, seeds, h, counters, ticks, rows, threads, p, e);
     }
     judge_done(s, seeds, h, counters, &*ticks, &*rows, threads, p, e)
 }

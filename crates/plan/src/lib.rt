@@ -1,6 +1,7 @@
 // Which delays tD a setting is accepted with: the least and the greatest, or the refusal that stands in the way.
 // The functions take the limits of a width, which an exported call fixes, and those of the profile that the setting names.
 // The definitions that the contracts cite are in specs/ and in the crate `plan_delays`, with the statements of what they mean.
+use house_seeds::difference;
 use plan_delays::Plan;
 ghost use mathlib.Core.Path.{_≡_};
 ghost use Prim.Native.Nat.{_+_, _-_, _*_, _^_, _≤_, _<_, min, max};
@@ -45,7 +46,8 @@ fn delay_refusal(m: rules::Limits, s: rules::Setting, td: u64) -> u32
     ensures { λ r. ⌜ r ≡ refusalNumber (delayRefusal m s td) ⌝ }
 {
     let seeds = [0u16; 64];
-    setting::refusal(m, with_delay(s, td), &seeds)
+    let away = difference(&seeds);
+    setting::refusal(m, with_delay(s, td), away, &seeds)
 }
 
 fn greater(a: u64, b: u64) -> u64

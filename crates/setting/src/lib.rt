@@ -6,22 +6,23 @@ use setting_bounds::bad_delay;
 use setting_bounds::short_window;
 use setting_ranges::and;
 use setting_ranges::fields_in_range;
-use setting_ranges::seeds_in_range;
 ghost use mathlib.Core.Path.{_≡_};
 ghost use Prim.Native.Nat.{_^_, _≤_};
 ghost use Rattle.rules.specs.Answers.{refusalNumber};
 ghost use Rattle.rules.specs.Setting.{settingRefusal};
+ghost use Rattle.house_seeds.specs.Away.{Away};
 pub use setting_bounds::history_length;
 pub use setting_words::load;
 pub use setting_words::narrow_limits;
 pub use setting_words::profile;
 
-// The number of the first of refusals 1 to 5 and 16 that the setting meets, or 0, with these limits.
-pub fn refusal(m: rules::Limits, s: rules::Setting, seeds: &[u16]) -> u32
-    requires { ⌜ m .threshold ≤ 2 ^ 20 ⌝ }
+// The number of the first of refusals 1 to 5 and 16 that the setting meets, or 0, with these limits. The caller has passed over the seeds: away is
+// how far they are from the house seeds.
+pub fn refusal(m: rules::Limits, s: rules::Setting, away: u16, seeds: &[u16]) -> u32
+    requires { ⌜ (m .threshold ≤ 2 ^ 20) × Away away (now seeds) ⌝ }
     ensures { λ r. ⌜ r ≡ refusalNumber (settingRefusal m s (now (seeds .entry))) ⌝ }
 {
-    if !and(fields_in_range(m, s), seeds_in_range(seeds)) {
+    if !and(fields_in_range(m, s), away <= 1023) {
         return 1;
     }
     let window = short_window(s);

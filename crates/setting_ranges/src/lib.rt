@@ -1,9 +1,9 @@
-// Refusal 1: every field of a setting in its range of the table, its mark that of a profile, and every seed in its own range.
+// Refusal 1: every field of a setting in its range of the table, and its mark that of a profile.
 use setting_words::is_known;
 ghost use mathlib.Core.Path.{_≡_};
 ghost use mathlib.Core.Bool.{_&&_};
 ghost use Rattle.rules.specs.Cells.{between};
-ghost use Rattle.rules.specs.Setting.{fieldsInRange, seedsInRange};
+ghost use Rattle.rules.specs.Setting.{fieldsInRange};
 
 // Both tests hold. Both are computed before the call, so the compiler joins them without a branch.
 pub fn and(a: bool, b: bool) -> bool
@@ -40,19 +40,4 @@ pub fn fields_in_range(m: rules::Limits, s: rules::Setting) -> bool
     let banks = and_within(q, 1, 16, s.banks);
     let threads = and_within(banks, 1, 32, s.threads);
     and(threads, is_known(s.profile))
-}
-
-// There are 64 seeds and each is at most 1,023. The quotients by 1,024 are summed without a branch:
-// the sum is 0 exactly where every seed is in range.
-pub fn seeds_in_range(seeds: &[u16]) -> bool
-    ensures { λ r. ⌜ r ≡ seedsInRange (now (seeds .entry)) ⌝ }
-{
-    if seeds.len() != 64 {
-        return false;
-    }
-    let mut excess: u16 = 0;
-    for i in 0..64 {
-        excess += seeds[i] / 1024;
-    }
-    excess == 0
 }

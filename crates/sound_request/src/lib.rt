@@ -10,6 +10,7 @@ ghost use Rattle.rules.specs.State.{state};
 ghost use Rattle.rules.specs.Policy.{limits01, narrow};
 ghost use Rattle.rules.specs.Tested.{Sound};
 ghost use Rattle.rules.specs.Calls.{request, step};
+ghost use Rattle.hash_words.specs.Words.{TableFor};
 ghost use Rattle.sound_told.specs.Told.{Told};
 
 // What a request gives: 0 and the answer, or the number of a refusal and an answer that says nothing; and the head after it.
@@ -19,8 +20,10 @@ pub struct Replied {
     pub head: Head,
 }
 
+// `table` says that the seeds are the house seeds: a caller that owns its memory tests that once.
 pub fn request(
     s: Setting,
+    table: bool,
     seeds: &[u16],
     h: Head,
     counters: &mut [u16],
@@ -32,7 +35,7 @@ pub fn request(
     thread: u64,
     row: u16,
 ) -> Replied
-    requires { ⌜ (settingRefusal limits01 s (now seeds) ≡ none) × Sound s (state h (now counters) (now ticks) (now rows) (now threads)) ⌝ }
+    requires { ⌜ (settingRefusal limits01 s (now seeds) ≡ none) × Sound s (state h (now counters) (now ticks) (now rows) (now threads)) × TableFor table (now seeds) ⌝ }
     ensures { λ r. ⌜ Told s (r .code) (r .answer) (state (r .head) (now (counters .exit)) (now (ticks .exit)) (now (rows .exit)) (now (threads .exit))) (step narrow s (now (seeds .entry)) (state h (now (counters .entry)) (now (ticks .entry)) (now (rows .entry)) (now (threads .entry))) (request tick bank thread row)) ⌝ }
 {
     let code = place_refusal(s, h.last, tick, bank, thread);
@@ -46,6 +49,7 @@ pub fn request(
     let banks = h.bank;
     let d = calls::request(
         s,
+        table,
         seeds,
         h,
         banks[bank as usize],

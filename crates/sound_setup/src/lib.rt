@@ -1,5 +1,6 @@
 // Set-up for callers in Rattle that own their memory. Where it is not refused, the state passes the tests of refusals 1 to 7 and 16.
 use head::Head;
+use house_seeds::difference;
 use refusal::setup_refusal;
 use rules::Setting;
 ghost use Rattle.rules.specs.State.{state};
@@ -24,9 +25,11 @@ pub fn setup(
 ) -> Started
     ensures { λ r. ⌜ Begun s (now (seeds .entry)) (r .code) (state (r .head) (now (counters .exit)) (now (ticks .exit)) (now (rows .exit)) (now (threads .exit))) (setup limits01 s (now (seeds .entry)) (state h (now (counters .entry)) (now (ticks .entry)) (now (rows .entry)) (now (threads .entry)))) ⌝ }
 {
+    let away = difference(seeds);
     let code = setup_refusal(
         setting::narrow_limits(),
         s,
+        away,
         seeds,
         counters.len(),
         ticks.len(),

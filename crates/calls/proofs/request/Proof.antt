@@ -131,7 +131,7 @@ turn-requires c κs =
 places-requires : tie.Need-places-requires
 places-requires c κs =
     let start = begun (c .before .before .before .before .before) in
-    is-true (seedsInRange (start .args .seeds .now)) (ok start .setting .seeds-ok)
+    (is-true (seedsInRange (start .args .seeds .now)) (ok start .setting .seeds-ok), start .pre .2)
 
 look-requires : tie.Need-look-requires
 unfolding movedHead

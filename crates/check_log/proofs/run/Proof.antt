@@ -3,6 +3,7 @@ use Prim.Native.Nat.{_-_, _^_}
 use mathlib.Core.Path.{_≡_}
 use native.Mathlib.Omega.{arith}
 use lib.ListN.{length}
+use Rattle.hash_words.specs.Words.{TableFor}
 use Rattle.log_format.specs.Verdict.{Running, memory}
 use Rattle.checker_reading.specs.Blocks.{readSoFar, Ready}
 use Rattle.checker.proofs.Logs.{start-memory}
@@ -22,6 +23,7 @@ Inv-loop block₀ counters₀ ticks₀ rows₀ threads₀ x₀ block counters ti
     × (1536 ≡ length threads)
     × Ready (readSoFar x counters ticks rows threads)
     × SoFar (readSoFar x counters ticks rows threads)
+    × TableFor (x .table) (x .seeds)
 
 abbrev μ-loop : tie.MeasureT-loop
 μ-loop block₀ counters₀ ticks₀ rows₀ threads₀ x₀ block counters ticks rows threads x = 2 ^ 32 - x .progress .blocks
@@ -39,7 +41,7 @@ start-requires c κs = search needs
 
 loop-holds : tie.Need-loop-holds Inv-loop μ-loop
 unfolding memory
-loop-holds c = (omega arith, omega arith, omega arith, omega arith, omega arith, c .start .ensures .2 _ _ _ _, none-yet _ (c .start .ensures .0) (start-memory _ (c .start .ensures .1)))
+loop-holds c = (omega arith, omega arith, omega arith, omega arith, omega arith, c .start .ensures .2 _ _ _ _, none-yet _ (c .start .ensures .0) (start-memory _ (c .start .ensures .1)), c .start .ensures .3)
 
 slice-aggregate-fill : tie.Need-slice-aggregate-fill Inv-loop μ-loop
 slice-aggregate-fill c = search needs
@@ -60,20 +62,20 @@ slice-aggregate-judge-filled-4 : tie.Need-slice-aggregate-judge-filled-4 Inv-loo
 slice-aggregate-judge-filled-4 c = search needs
 
 judge-filled-requires : tie.Need-judge-filled-requires Inv-loop μ-loop
-judge-filled-requires c κs = c .before .before .before .before .before .before .before .before .loop .inv .5
+judge-filled-requires c κs = let i = c .before .before .before .before .before .before .before .before .loop .inv in (i .5, i .7)
 
 returns : tie.Need-returns Inv-loop μ-loop
 returns c =
     let i = c .before .before .before .before .before .before .before .before .before .before .before .before .before .before .loop .inv in
     let q = c .before .before .before .before .before .judge-filled in
     let n : length (c .before .before .before .before .before .before .before .before .before .before .before .before .fill .last .0) ≡ 512 = omega (arith, c .before .before .before .before .before .before .before .before .before .before .before .before .fill .kept .0, i .0) in
-    is-over (c .before .before .before .before .before .before .before .before .before .before .before .before .fill .result) (read (c .before .before .before .before .before .before .before .before .before .before .before .before .before .before)) (next (c .before .before .before .before .before)) (c .before .before .before .before .before .before .before .before .before .before .before .before .fill .last .0) (q .result .over) (q .result .report) (i .6) n (q .ensures .follows) (c .if1 .taken)
+    is-over (c .before .before .before .before .before .before .before .before .before .before .before .before .fill .result) (read (c .before .before .before .before .before .before .before .before .before .before .before .before .before .before)) (next (c .before .before .before .before .before)) (c .before .before .before .before .before .before .before .before .before .before .before .before .fill .last .0) (q .result .over) (q .result .report) (i .6) n (q .ensures .0 .follows) (c .if1 .taken)
 
 loop-less : tie.Need-loop-less Inv-loop μ-loop
 loop-less c =
     let q = c .before .before .before .before .before .before .judge-filled in
-    let m = q .ensures .moved (c .before .if1 .left) in
-    let r = q .ensures .ready (c .before .if1 .left) .blocks in
+    let m = q .ensures .0 .moved (c .before .if1 .left) in
+    let r = q .ensures .0 .ready (c .before .if1 .left) .blocks in
     omega arith
 
 loop-again : tie.Need-loop-again Inv-loop μ-loop
@@ -86,8 +88,9 @@ loop-again c =
       omega (arith, q .kept .1 .1 .1 .0, i .2),
       omega (arith, q .kept .1 .1 .1 .1 .0, i .3),
       omega (arith, q .kept .1 .1 .1 .1 .1 .0, i .4),
-      q .ensures .ready (c .before .if1 .left),
-      goes-on (c .before .before .before .before .before .before .before .before .before .before .before .before .before .fill .result) (read (c .before .before .before .before .before .before .before .before .before .before .before .before .before .before .before)) (next (c .before .before .before .before .before .before)) (c .before .before .before .before .before .before .before .before .before .before .before .before .before .fill .last .0) (q .result .over) (q .result .report) (i .6) n (q .ensures .follows) (c .before .if1 .left),
+      q .ensures .0 .ready (c .before .if1 .left),
+      goes-on (c .before .before .before .before .before .before .before .before .before .before .before .before .before .fill .result) (read (c .before .before .before .before .before .before .before .before .before .before .before .before .before .before .before)) (next (c .before .before .before .before .before .before)) (c .before .before .before .before .before .before .before .before .before .before .before .before .before .fill .last .0) (q .result .over) (q .result .report) (i .6) n (q .ensures .0 .follows) (c .before .if1 .left),
+      q .ensures .1,
     )
 
 pub run-spec : {M : Type 1} → statement M

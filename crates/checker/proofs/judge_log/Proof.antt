@@ -5,6 +5,7 @@ use mathlib.Core.Bool.{Bool}
 use native.Mathlib.Omega.{arith}
 use lib.Dec.{eqb}
 use lib.ListN.{length}
+use Rattle.hash_words.specs.Words.{TableFor}
 use Rattle.log_format.specs.Verdict.{Running, memory}
 use Rattle.judge.specs.Follow.{reportOf}
 use Rattle.checker_reading.specs.Blocks.{readSoFar}
@@ -21,6 +22,7 @@ Inv-loop bytes counters₀ ticks₀ rows₀ threads₀ n x₀ b₀ counters tick
     × (4096 ≡ length rows)
     × (1536 ≡ length threads)
     × Through bytes n (eqb (length bytes % 512) 0) b (readSoFar x counters ticks rows threads)
+    × TableFor (x .table) (x .seeds)
 
 abbrev μ-loop : tie.MeasureT-loop
 μ-loop bytes counters₀ ticks₀ rows₀ threads₀ n x₀ b₀ counters ticks rows threads x b = n - b
@@ -37,6 +39,16 @@ read c = let l = c .loop in readSoFar (l .x) (l .counters) (l .ticks) (l .rows) 
 abbrev next : tie.After-judge-block Inv-loop μ-loop → Running
 next c = let q = c .judge-block in readSoFar (q .result .reading) (q .last .1 .0) (q .last .1 .1 .0) (q .last .1 .1 .1 .0) (q .last .1 .1 .1 .1 .0)
 
+-- the way back from a judged block: it was copied, after the loop's test, from the loop's head and so from the start
+abbrev copied : tie.After-judge-block Inv-loop μ-loop → tie.After-block-at Inv-loop μ-loop
+copied c = (c .before .before .before .before .before .before)
+
+abbrev tested : tie.After-judge-block Inv-loop μ-loop → tie.In-loop Inv-loop μ-loop
+tested c = (copied c .before)
+
+abbrev begun : tie.At-loop Inv-loop μ-loop → tie.Start Inv-loop μ-loop
+begun c = (c .before .before .before)
+
 start-requires : tie.Need-start-requires Inv-loop μ-loop
 start-requires c κs = search needs
 
@@ -49,6 +61,7 @@ loop-holds c = (
   omega arith,
   omega arith,
   through-none (c .before .before .args .bytes .now) (blocks (c .before .before)) (whole (c .before .before)) _ (c .start .ensures .0) (start-memory _ (c .start .ensures .1)) (c .start .ensures .2 _ _ _ _),
+  c .start .ensures .3,
 )
 
 block-at-requires : tie.Need-block-at-requires Inv-loop μ-loop
@@ -67,14 +80,19 @@ slice-aggregate-judge-block-4 : tie.Need-slice-aggregate-judge-block-4 Inv-loop 
 slice-aggregate-judge-block-4 c = search needs
 
 judge-block-requires : tie.Need-judge-block-requires Inv-loop μ-loop
-judge-block-requires c κs = c .before .before .before .before .before .before .before .loop .inv .5 .ready
+judge-block-requires c κs = let i = c .before .before .before .before .before .before .before .loop .inv in (i .5 .ready, i .6)
 
 returns : tie.Need-returns Inv-loop μ-loop
 returns c =
-    let q = c .before .before .before .before .before .judge-block in
-    through-over (c .before .before .before .before .before .before .before .before .before .before .before .before .before .before .before .before .args .bytes .now) (blocks (c .before .before .before .before .before .before .before .before .before .before .before .before .before .before .before .before)) (whole (c .before .before .before .before .before .before .before .before .before .before .before .before .before .before .before .before)) (c .before .before .before .before .before .before .before .before .before .before .before .before .before .loop .b) (read (c .before .before .before .before .before .before .before .before .before .before .before .before .before)) (c .before .before .before .before .before .before .before .before .before .before .before .before .before .loop .inv .5) (c .before .before .before .before .before .before .before .before .before .before .before .before .loop-test .taken) (q .result .over) (q .result .report) (next (c .before .before .before .before .before))
-    (rw (c .before .before .before .before .before .before .before .before .before .before .before .block-at .ensures) at (q .ensures)) (c .if1 .taken)
-    ∙ ap reportOf (sym (of-bytes (c .before .before .before .before .before .before .before .before .before .before .before .before .before .before .before .before .args .bytes .now)))
+    let at = c .before .before .before .before .before in
+    let q = at .judge-block in
+    let here = tested at .before in
+    let l = here .loop in
+    let start = begun here in
+    let bytes = start .args .bytes .now in
+    through-over bytes (blocks start) (whole start) (l .b) (read here) (l .inv .5) (tested at .loop-test .taken) (q .result .over) (q .result .report) (next at)
+    (rw (copied at .block-at .ensures) at (q .ensures .0)) (c .if1 .taken)
+    ∙ ap reportOf (sym (of-bytes bytes))
 
 add-b : tie.Need-add-b Inv-loop μ-loop
 add-b c = search needs
@@ -84,15 +102,21 @@ loop-less c = search needs
 
 loop-again : tie.Need-loop-again Inv-loop μ-loop
 loop-again c =
-    let q = c .before .before .before .before .before .before .judge-block in
-    let t = c .before .before .before .before .before .before .before .before .before .before .before .before .before .loop-test .taken in (
+    let at = c .before .before .before .before .before .before in
+    let q = at .judge-block in
+    let here = tested at .before in
+    let l = here .loop in
+    let i = l .inv in
+    let start = begun here in
+    let t = tested at .loop-test .taken in (
       omega arith,
-      omega (arith, q .kept .1 .0, c .before .before .before .before .before .before .before .before .before .before .before .before .before .before .loop .inv .1),
-      omega (arith, q .kept .1 .1 .0, c .before .before .before .before .before .before .before .before .before .before .before .before .before .before .loop .inv .2),
-      omega (arith, q .kept .1 .1 .1 .0, c .before .before .before .before .before .before .before .before .before .before .before .before .before .before .loop .inv .3),
-      omega (arith, q .kept .1 .1 .1 .1 .0, c .before .before .before .before .before .before .before .before .before .before .before .before .before .before .loop .inv .4),
-      through-more (c .before .before .before .before .before .before .before .before .before .before .before .before .before .before .before .before .before .args .bytes .now) (blocks (c .before .before .before .before .before .before .before .before .before .before .before .before .before .before .before .before .before)) (whole (c .before .before .before .before .before .before .before .before .before .before .before .before .before .before .before .before .before)) (c .before .before .before .before .before .before .before .before .before .before .before .before .before .before .loop .b) (read (c .before .before .before .before .before .before .before .before .before .before .before .before .before .before)) (c .before .before .before .before .before .before .before .before .before .before .before .before .before .before .loop .inv .5) (c .before .before .before .before .before .before .before .before .before .before .before .before .before .loop-test .taken) (q .result .over) (q .result .report) (next (c .before .before .before .before .before .before))
-          (rw (c .before .before .before .before .before .before .before .before .before .before .before .before .block-at .ensures) at (q .ensures)) (c .before .if1 .left),
+      omega (arith, q .kept .1 .0, i .1),
+      omega (arith, q .kept .1 .1 .0, i .2),
+      omega (arith, q .kept .1 .1 .1 .0, i .3),
+      omega (arith, q .kept .1 .1 .1 .1 .0, i .4),
+      through-more (start .args .bytes .now) (blocks start) (whole start) (l .b) (read here) (i .5) t (q .result .over) (q .result .report) (next at)
+          (rw (copied at .block-at .ensures) at (q .ensures .0)) (c .before .if1 .left),
+      q .ensures .1,
     )
 
 at-end-requires : tie.Need-at-end-requires Inv-loop μ-loop
@@ -101,8 +125,12 @@ at-end-requires c κs = search needs
 returns-2 : tie.Need-returns-2 Inv-loop μ-loop
 returns-2 c =
     let t = c .before .before .loop-test .left in
-    let i = c .before .before .before .loop .inv .0 in
-    c .at-end .ensures ∙ ap reportOf (sym (of-bytes (c .before .before .before .before .before .before .args .bytes .now) ∙ through-all (c .before .before .before .before .before .before .args .bytes .now) (blocks (c .before .before .before .before .before .before)) (whole (c .before .before .before .before .before .before)) (c .before .before .before .loop .b) (read (c .before .before .before)) (c .before .before .before .loop .inv .5) (omega arith)))
+    let here = c .before .before .before in
+    let l = here .loop in
+    let i = l .inv .0 in
+    let start = begun here in
+    let bytes = start .args .bytes .now in
+    c .at-end .ensures ∙ ap reportOf (sym (of-bytes bytes ∙ through-all bytes (blocks start) (whole start) (l .b) (read here) (l .inv .5) (omega arith)))
 
 pub judge-log-spec : {M : Type 1} → statement M
 judge-log-spec =

@@ -26,7 +26,7 @@ cast-t10 c = search needs
 returns : tie.Need-returns
 returns c =
     let start = c .before .before .before .before .before .before .before in
-    block-refused (before start) (start .args .block .now) (c .before .refusal .result) (before start) (c .before .refusal .ensures .0) (c .if1 .taken)
+    (block-refused (before start) (start .args .block .now) (c .before .refusal .result) (before start) (c .before .refusal .ensures .0) (c .if1 .taken), start .pre .1)
 
 judge-start-requires : tie.Need-judge-start-requires
 judge-start-requires c κs = search needs
@@ -46,13 +46,14 @@ same-length-4 c = search needs
 returns-2 : tie.Need-returns-2
 returns-2 c =
     let start = c .before .before .before .before .before .before .before .before .before .before .before .before .before .before .before .before .before .before .before .before .before .before in
-    block-started (before start) (start .args .block .now) _ _ _ (sound (c .before .before .before .before .before .before .before .before .before .before .before .before .before .before .before)) (c .before .before .before .before .before .before .before .before .before .before .before .before .before .if2 .taken) (c .before .before .before .before .before .before .before .before .judge-start .ensures)
+    let q = c .before .before .before .before .before .before .before .before .judge-start in
+    (block-started (before start) (start .args .block .now) _ _ _ (sound (c .before .before .before .before .before .before .before .before .before .before .before .before .before .before .before)) (c .before .before .before .before .before .before .before .before .before .before .before .before .before .if2 .taken) (q .ensures .0), q .ensures .1)
 
 judge-later-requires : tie.Need-judge-later-requires
 judge-later-requires c κs =
     let start = c .before .before .before .before .before .before .before .before .before .before .before .before .before in
     let at-if1 = c .before .before .before .before .before .before in
-    (start .pre, omega arith, c .before .before .before .before .before .before .before .refusal .ensures .1 (at-if1 .if1 .left), block-count (before start) (start .args .block .now) (sound at-if1) (c .before .before .before .before .if2 .left))
+    (start .pre .0, omega arith, c .before .before .before .before .before .before .before .refusal .ensures .1 (at-if1 .if1 .left), block-count (before start) (start .args .block .now) (sound at-if1) (c .before .before .before .before .if2 .left), start .pre .1)
 
 same-length-5 : tie.Need-same-length-5
 same-length-5 c = search needs
@@ -69,7 +70,8 @@ same-length-8 c = search needs
 returns-3 : tie.Need-returns-3
 returns-3 c =
     let start = c .before .before .before .before .before .before .before .before .before .before .before .before .before .before .before .before .before .before .before .before .before .before in
-    rw (block-later (before start) (start .args .block .now) (sound (c .before .before .before .before .before .before .before .before .before .before .before .before .before .before .before)) (c .before .before .before .before .before .before .before .before .before .before .before .before .before .if2 .left)) (c .before .before .before .before .before .before .before .before .judge-later .ensures)
+    let q = c .before .before .before .before .before .before .before .before .judge-later in
+    (rw (block-later (before start) (start .args .block .now) (sound (c .before .before .before .before .before .before .before .before .before .before .before .before .before .before .before)) (c .before .before .before .before .before .before .before .before .before .before .before .before .before .if2 .left)) (q .ensures .0), q .ensures .1)
 
 pub judge-block-spec : {M : Type 1} → statement M
 judge-block-spec =

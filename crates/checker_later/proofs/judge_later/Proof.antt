@@ -15,10 +15,10 @@ judge-records-requires c κs =
     let ok = h .0 in
     let m = ok .model (h .1) in
     let few = h .2 in
-    (m .0, m .1, record { records = omega (arith, ok .records); opened = omega (arith, ok .opened); last = omega arith }, h .3)
+    (m .0, m .1, record { records = omega (arith, ok .records); opened = omega (arith, ok .opened); last = omega arith }, h .3, h .4)
 
-add-t27 : tie.Need-add-t27
-add-t27 c =
+add-t28 : tie.Need-add-t28
+add-t28 c =
     let few = (c .before .before .before .before .before .before .before .before .before .before .before .before .before .before .before .before .before .before .before .before .before .before .before .before .before) .pre .2 in
     omega arith
 
@@ -40,10 +40,13 @@ returns c =
     let a = start .args in
     let q = c .before .before .before .before .before .before .before .before .before .before .before .judge-records in
     let h = start .pre in
-    later-judged (a .x .setting) (a .x .seeds) (a .block .now) (a .x .progress)
-    (state (a .x .head) (a .counters .now) (a .ticks .now) (a .rows .now) (a .threads .now))
-    (state (q .result .head) (q .last .1 .1 .1 .0) (q .last .1 .1 .1 .1 .0) (q .last .1 .1 .1 .1 .1 .0) (q .last .1 .1 .1 .1 .1 .1 .0))
-    (q .result) (h .0) (h .1) (h .2) (q .ensures)
+    let buffers = q .last .1 .1 .1 .1 in (
+      later-judged (a .x .setting) (a .x .seeds) (a .block .now) (a .x .progress)
+          (state (a .x .head) (a .counters .now) (a .ticks .now) (a .rows .now) (a .threads .now))
+          (state (q .result .head) (buffers .0) (buffers .1 .0) (buffers .1 .1 .0) (buffers .1 .1 .1 .0))
+          (q .result) (h .0) (h .1) (h .2) (q .ensures),
+      h .4,
+    )
 
 pub judge-later-spec : {M : Type 1} → statement M
 judge-later-spec =
@@ -51,7 +54,7 @@ judge-later-spec =
     (tie.spec
     slice-aggregate-judge-records
     judge-records-requires
-    add-t27
+    add-t28
     same-length
     same-length-2
     same-length-3

@@ -12,7 +12,7 @@ use Rattle.checker_records.proofs.judge_records.Statement.{statement}
 use Rattle.checker_records.proofs.judge_records.Tie as tie
 
 abbrev Inv-loop : tie.InvT-loop
-Inv-loop s seeds counters₀ ticks₀ rows₀ threads₀ block n progress₀ head₀ k₀ counters ticks rows threads progress head k =
+Inv-loop s table seeds counters₀ ticks₀ rows₀ threads₀ block n progress₀ head₀ k₀ counters ticks rows threads progress head k =
     (k ≤ n)
     × (length counters ≡ length counters₀)
     × (length ticks ≡ length ticks₀)
@@ -21,7 +21,7 @@ Inv-loop s seeds counters₀ ticks₀ rows₀ threads₀ block n progress₀ hea
     × Going s seeds block progress₀ n (state head₀ counters₀ ticks₀ rows₀ threads₀) k progress (state head counters ticks rows threads)
 
 abbrev μ-loop : tie.MeasureT-loop
-μ-loop s seeds counters₀ ticks₀ rows₀ threads₀ block n progress₀ head₀ k₀ counters ticks rows threads progress head k = n - k
+μ-loop s table seeds counters₀ ticks₀ rows₀ threads₀ block n progress₀ head₀ k₀ counters ticks rows threads progress head k = n - k
 
 abbrev entry : tie.After-count Inv-loop μ-loop → State
 entry c = let a = c .before .before .before .before .before .before .args in state (a .h) (a .counters .now) (a .ticks .now) (a .rows .now) (a .threads .now)
@@ -30,7 +30,7 @@ abbrev at-head : tie.At-loop Inv-loop μ-loop → State
 at-head c = let l = c .loop in state (l .head) (l .counters) (l .ticks) (l .rows) (l .threads)
 
 abbrev left : tie.After-judge-record Inv-loop μ-loop → State
-left c = let q = c .judge-record in state (q .result .head) (q .last .1 .1 .1 .0) (q .last .1 .1 .1 .1 .0) (q .last .1 .1 .1 .1 .1 .0) (q .last .1 .1 .1 .1 .1 .1 .0)
+left c = let q = c .judge-record in let buffers = q .last .1 .1 .1 .1 in state (q .result .head) (buffers .0) (buffers .1 .0) (buffers .1 .1 .0) (buffers .1 .1 .1 .0)
 
 few : (c : tie.After-count Inv-loop μ-loop) → c .count .result ≤ 20
 few c = let e = c .count .ensures in let h = (c .before .before .before .before .before .before) .pre .3 in omega arith
@@ -56,7 +56,7 @@ judge-record-requires c κs =
     let t = c .before .before .before .before .before .loop-test .taken in
     let n = few (c .before .before .before .before .before .before .before) in
     let room = start .pre .2 in
-    (start .pre .0, g .sound, record { records = omega (arith, room .records); opened = omega (arith, room .opened); last = omega (arith, room .last) })
+    (start .pre .0, g .sound, record { records = omega (arith, room .records); opened = omega (arith, room .opened); last = omega (arith, room .last) }, start .pre .4)
 
 same-length : tie.Need-same-length Inv-loop μ-loop
 same-length c = search needs
@@ -99,12 +99,13 @@ loop-again c =
     let a = c .before .before .before .before .before .before .before .before .before .before .before .before .before .before .before .before .before .before .before .before .before .before .before .before .before .args in
     let l = at-loop .loop in
     let q = at-judge-record .judge-record in
+    let kept = q .kept .1 .1 .1 .1 in
     let t = at-loop-test .loop-test .taken in (
       omega arith,
-      q .kept .1 .1 .1 .0 ∙ l .inv .1,
-      q .kept .1 .1 .1 .1 .0 ∙ l .inv .2,
-      q .kept .1 .1 .1 .1 .1 .0 ∙ l .inv .3,
-      q .kept .1 .1 .1 .1 .1 .1 .0 ∙ l .inv .4,
+      kept .0 ∙ l .inv .1,
+      kept .1 .0 ∙ l .inv .2,
+      kept .1 .1 .0 ∙ l .inv .3,
+      kept .1 .1 .1 .0 ∙ l .inv .4,
       going-more (a .s) (a .seeds .now) (a .block .now) (a .p) (at-count .count .result) (entry at-count) (l .k) (l .progress) (at-head at-loop) (l .inv .5) (at-loop-test .loop-test .taken)
           (at-entry-at .entry-at .result) (at-entry-at .entry-at .ensures) (q .result) (left at-judge-record) (q .ensures) (c .before .before .if1 .left),
     )

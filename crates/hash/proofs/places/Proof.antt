@@ -1,37 +1,30 @@
--- `hash::places` meets its contract: the four hashes are the definition's places, and each is below 1,024.
-use Rattle.hash.proofs.Laws.{four-places, within}
+-- `hash::places` meets its contract: by the table or by the seeds, the places are the definition's, and each is below 1,024.
+use mathlib.Core.Path.{sym, ap, _∙_}
+use Rattle.rules.specs.Hash.{places}
+use Rattle.hash.proofs.Laws.{within}
 use borrow.Author.Needs.{needs}
 use Rattle.hash.proofs.places.Statement.{statement}
 use Rattle.hash.proofs.places.Tie as tie
 
-hash-requires : tie.Need-hash-requires
-hash-requires c κs = search needs
-
-hash-requires-2 : tie.Need-hash-requires-2
-hash-requires-2 c κs = search needs
-
-hash-requires-3 : tie.Need-hash-requires-3
-hash-requires-3 c κs = search needs
-
-hash-requires-4 : tie.Need-hash-requires-4
-hash-requires-4 c κs = search needs
+table-places-requires : tie.Need-table-places-requires
+table-places-requires c κs = search needs
 
 returns : tie.Need-returns
 returns c =
-    let third = c .before in
-    let second = third .before in
-    let first = second .before in
-    let start = first .before .before in
+    let start = c .before .before .before in
     let a = start .args in
-    let e = four-places (a .seeds .now) (a .row) (first .hash .result) (second .hash2 .result) (third .hash3 .result) (c .hash4 .result) (first .hash .ensures) (second .hash2 .ensures) (third .hash3 .ensures) (c .hash4 .ensures) in
-    (e, within (a .seeds .now) _ (a .row) (start .pre) e)
+    let e = c .table-places .ensures ∙ ap (λ seeds. places seeds (a .row)) (sym (start .pre .1 (c .before .if1 .taken))) in
+    (e, within (a .seeds .now) _ (a .row) (start .pre .0) e)
+
+seed-places-requires : tie.Need-seed-places-requires
+seed-places-requires c κs = search needs
+
+returns-2 : tie.Need-returns-2
+returns-2 c =
+    let start = c .before .before .before in
+    let a = start .args in
+    let e = c .seed-places .ensures in
+    (e, within (a .seeds .now) _ (a .row) (start .pre .0) e)
 
 pub places-spec : {M : Type 1} → statement M
-places-spec =
-    tie.close
-    (tie.spec
-    hash-requires
-    hash-requires-2
-    hash-requires-3
-    hash-requires-4
-    returns)
+places-spec = tie.close (tie.spec table-places-requires returns seed-places-requires returns-2)

@@ -4,6 +4,12 @@ use borrow.Author.Needs.{needs}
 use Rattle.plan.proofs.delay_refusal.Statement.{statement}
 use Rattle.plan.proofs.delay_refusal.Tie as tie
 
+slice-aggregate-difference : tie.Need-slice-aggregate-difference
+slice-aggregate-difference c = search needs
+
+difference-requires : tie.Need-difference-requires
+difference-requires c κs = search needs
+
 with-delay-requires : tie.Need-with-delay-requires
 with-delay-requires c κs = search needs
 
@@ -21,6 +27,8 @@ pub delay-refusal-spec : {M : Type 1} → statement M
 delay-refusal-spec =
     tie.close
     (tie.spec
+    slice-aggregate-difference
+    difference-requires
     with-delay-requires
     slice-aggregate-refusal
     refusal-requires

@@ -18,7 +18,7 @@ use Rattle.setting.proofs.refusal.Tie as tie
 
 -- the start, and the arguments after the test of refusal 1
 abbrev start : tie.After-and → tie.Start
-start c = c .before .before .before .before
+start c = c .before .before .before
 
 abbrev m : tie.Else1 → Limits
 m c = start (c .before) .args .m
@@ -38,7 +38,7 @@ first c = window c .before
 
 -- the test of refusal 1, as the code has computed it
 tested : (c : tie.After-and) → let a = start c .args in c .and .result ≡ inRange (a .m) (a .s) (a .seeds .now)
-tested c = rw (← c .before .before .fields-in-range .ensures, ← c .before .seeds-in-range .ensures) (c .and .ensures)
+tested c = rw (← c .before .fields-in-range .ensures, ← start c .pre .1 .ranged) (c .and .ensures)
 
 out : (c : tie.Then1) → let a = start (c .before) .args in inRange (a .m) (a .s) (a .seeds .now) ≡ false
 out c = sym (tested (c .before)) ∙ not-true _ (c .if1 .taken)
@@ -67,9 +67,6 @@ left c =
 
 fields-in-range-requires : tie.Need-fields-in-range-requires
 fields-in-range-requires c κs = search needs
-
-seeds-in-range-requires : tie.Need-seeds-in-range-requires
-seeds-in-range-requires c κs = search needs
 
 and-requires : tie.Need-and-requires
 and-requires c κs = search needs
@@ -138,7 +135,6 @@ refusal-spec =
     tie.close
     (tie.spec
     fields-in-range-requires
-    seeds-in-range-requires
     and-requires
     returns
     short-window-requires

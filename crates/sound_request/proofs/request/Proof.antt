@@ -64,7 +64,7 @@ array-read-request : tie.Need-array-read-request
 array-read-request c = in-head (c .before)
 
 request-requires : tie.Need-request-requires
-request-requires c κs = (free (c .before .before .before .before .before), refl)
+request-requires c κs = let here = c .before .before .before .before .before in (free here, refl, begun here .pre .2)
 
 same-length : tie.Need-same-length
 same-length c = search needs
@@ -86,7 +86,7 @@ returns-2 c =
     let a = start .args in
     let q = c .before .before .before .before .before .before .before .before .before .request in
     told-taken (a .s) (callRefusal limits01 (a .s) (a .seeds .now) (entry start) (a .tick) (a .bank) (a .thread)) (entry start) (performs start) (q .result .answer)
-    (state (q .result .head) (q .last .1 .1 .1 .1 .0) (q .last .1 .1 .1 .1 .1 .0) (q .last .1 .1 .1 .1 .1 .1 .0) (q .last .1 .1 .1 .1 .1 .1 .1 .0))
+    (state (q .result .head) (q .last .1 .1 .1 .1 .1 .0) (q .last .1 .1 .1 .1 .1 .1 .0) (q .last .1 .1 .1 .1 .1 .1 .1 .0) (q .last .1 .1 .1 .1 .1 .1 .1 .1 .0))
     (ap refusalNumber (free here)) (q .ensures .0) (q .ensures .1)
 
 pub request-spec : {M : Type 1} → statement M

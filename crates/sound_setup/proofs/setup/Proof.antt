@@ -19,32 +19,42 @@ use Rattle.sound_setup.proofs.setup.Tie as tie
 abbrev entry : tie.Start → State
 entry c = let a = c .args in state (a .h) (a .counters .now) (a .ticks .now) (a .rows .now) (a .threads .now)
 
+-- the start, from where the code is known and from where it is 0
+abbrev asked : tie.After-setup-refusal → tie.Start
+asked c = (c .before .before .before .before .before .before .before .before)
+
+abbrev begun : tie.Else1 → tie.Start
+begun c = asked (c .before)
+
 -- the code is the number of the rules' refusal
-code-is : (c : tie.After-setup-refusal) → let start = c .before .before .before .before .before .before .before in c .setup-refusal .result ≡ refusalNumber (setupRefusal limits01 (start .args .s) (start .args .seeds .now) (entry start))
+code-is : (c : tie.After-setup-refusal) → let start = asked c in c .setup-refusal .result ≡ refusalNumber (setupRefusal limits01 (start .args .s) (start .args .seeds .now) (entry start))
 code-is c =
-    let start = c .before .before .before .before .before .before .before in
+    let start = asked c in
     let a = start .args in
     c .setup-refusal .ensures
     ∙ ap (λ m. refusalNumber (setupTest m (a .s) (a .seeds .now) (length (a .counters .now)) (length (a .ticks .now)) (length (a .rows .now)) (length (a .threads .now)))) (c .before .narrow-limits .ensures)
     ∙ ap refusalNumber (sym (setup-test limits01 (a .s) (a .seeds .now) (entry start)))
 
-taken : (c : tie.Else1) → let start = c .before .before .before .before .before .before .before .before in setupRefusal limits01 (start .args .s) (start .args .seeds .now) (entry start) ≡ none
+taken : (c : tie.Else1) → let start = begun c in setupRefusal limits01 (start .args .s) (start .args .seeds .now) (entry start) ≡ none
 taken c = number-none _ (sym (code-is (c .before)) ∙ c .if1 .left)
 
-ok : (c : tie.Else1) → let start = c .before .before .before .before .before .before .before .before in SetUp limits01 (start .args .s) (start .args .seeds .now) (entry start)
+ok : (c : tie.Else1) → let start = begun c in SetUp limits01 (start .args .s) (start .args .seeds .now) (entry start)
 ok c =
-    let start = c .before .before .before .before .before .before .before .before in
+    let start = begun c in
     set-up limits01 (start .args .s) (start .args .seeds .now) (entry start) (taken c)
+
+difference-requires : tie.Need-difference-requires
+difference-requires c κs = search needs
 
 narrow-limits-requires : tie.Need-narrow-limits-requires
 narrow-limits-requires c κs = search needs
 
 setup-refusal-requires : tie.Need-setup-refusal-requires
-setup-refusal-requires c κs = rw (c .narrow-limits .ensures) (omega arith)
+setup-refusal-requires c κs = (rw (c .narrow-limits .ensures) (omega arith), c .before .difference .ensures)
 
 returns : tie.Need-returns
 returns c =
-    let start = c .before .before .before .before .before .before .before .before in
+    let start = asked (c .before) in
     begun-refused (start .args .s) (start .args .seeds .now) (entry start) (c .before .setup-refusal .result) (code-is (c .before)) (c .if1 .taken)
 
 fresh-requires : tie.Need-fresh-requires
@@ -67,15 +77,17 @@ same-length-4 c = search needs
 returns-2 : tie.Need-returns-2
 unfolding fresh
 returns-2 c =
-    let start = c .before .before .before .before .before .before .before .before .before .before .before .before .before .before .before .before .before .before .before .before .before in
+    let here = c .before .before .before .before .before .before .before .before .before .before .before .before .before in
+    let start = begun here in
     let at-fresh = c .before .before .before .before .before .before .before .before in
     let q = at-fresh .fresh .last in
-    begun-taken (start .args .s) (start .args .seeds .now) (entry start) (state (at-fresh .fresh .result) (q .1 .0) (q .1 .1 .0) (q .1 .1 .1 .0) (q .1 .1 .1 .1 .0)) (taken (c .before .before .before .before .before .before .before .before .before .before .before .before .before)) (at-fresh .fresh .ensures)
+    begun-taken (start .args .s) (start .args .seeds .now) (entry start) (state (at-fresh .fresh .result) (q .1 .0) (q .1 .1 .0) (q .1 .1 .1 .0) (q .1 .1 .1 .1 .0)) (taken here) (at-fresh .fresh .ensures)
 
 pub setup-spec : {M : Type 1} → statement M
 setup-spec =
     tie.close
     (tie.spec
+    difference-requires
     narrow-limits-requires
     setup-refusal-requires
     returns

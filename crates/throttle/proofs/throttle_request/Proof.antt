@@ -1,9 +1,12 @@
 -- `throttle_request` is refused as the rules say, or is the rules' request.
 use Prim.Native.Nat.{_<_}
-use mathlib.Core.Path.{_≡_, sym, ap, _∙_}
+use mathlib.Core.Path.{_≡_, sym, ap, ap₂, _∙_}
 use native.Mathlib.Omega.{arith}
+use borrow.Author.Tests.{eqb-true}
+use lib.ListN.{getD}
+use Rattle.head.specs.declared.Head.{Head}
 use Rattle.rules.specs.declared.Setting.{Setting}
-use Rattle.rules.specs.Answers.{none, refusalNumber}
+use Rattle.rules.specs.Answers.{Refusal, none, refusalNumber}
 use Rattle.rules.specs.Setting.{settingOf}
 use Rattle.rules.specs.State.{State, state}
 use Rattle.rules.specs.Clock.{turned}
@@ -30,13 +33,23 @@ performs c = let a = c .args in requested narrow (s c) (λ f. places (a .seeds .
 
 -- the start, from where the code is known and from where it is 0
 abbrev asked : tie.After-call-refusal → tie.Start
-asked c = (c .before .before .before .before .before .before .before .before .before)
+asked c = (c .before .before .before .before .before .before .before .before .before .before)
 
 abbrev begun : tie.Else1 → tie.Start
 begun c = asked (c .before)
 
-abbrev passed : tie.After-request → tie.Else1
-passed c = (c .before .before .before .before .before .before .before .before .before)
+-- the head and the setting are loaded; before all, the pass over the seeds
+abbrev headed : tie.After-request-arg5 → tie.After-load-head
+headed c = (c .before .before .before .before .before)
+
+abbrev loaded : tie.After-load-head → tie.After-load
+loaded c = (c .before .before)
+
+abbrev passed : tie.After-load-head → tie.Else1
+passed c = (loaded c .before)
+
+abbrev compared : tie.Else1 → tie.After-difference
+compared c = (c .before .before .before .before .before)
 
 -- the code is the number of the rules' refusal
 code-is : (c : tie.After-call-refusal) → let start = asked c in let a = start .args in c .call-refusal .result ≡ refusalNumber (callRefusal limits01 (s start) (a .seeds .now) (entry start) (a .tick) (a .bank) (a .thread))
@@ -59,17 +72,25 @@ in-head c =
 
 -- the state that the request leaves
 abbrev after : tie.After-request → State
-after c = let q = c .request in state (q .result .head) (q .last .1 .1 .1 .1 .0) (q .last .1 .1 .1 .1 .1 .0) (q .last .1 .1 .1 .1 .1 .1 .0) (q .last .1 .1 .1 .1 .1 .1 .1 .0)
+after c = let q = c .request in let buffers = q .last .1 .1 .1 .1 .1 in state (q .result .head) (buffers .0) (buffers .1 .0) (buffers .1 .1 .0) (buffers .1 .1 .1 .0)
 
 -- what was loaded is what the words hold, so it is the rules' request
-left-by : (c : tie.After-request) → outcome (answered (c .request .result .answer)) (after c) ≡ performs (begun (passed c))
-left-by c = rw (c .before .before .before .before .before .before .before .before .load .ensures, c .before .before .before .before .before .before .load-head .ensures) at (c .request .ensures .0)
+left-by : (c : tie.After-request) → outcome (answered (c .request .result .answer)) (after c) ≡ performs (begun (passed (headed (c .before))))
+left-by c =
+    let at = headed (c .before) in
+    let a = begun (passed (headed (c .before))) .args in
+    c .request .ensures .0
+    ∙ ap₂ (λ σ h. requested narrow σ (λ f. places (a .seeds .now) (a .row)) (turned σ (state h (a .counters .now) (a .ticks .now) (a .rows .now) (a .threads .now)) (a .tick)) (a .bank) (a .thread) (a .row))
+    (loaded at .load .ensures) (at .load-head .ensures)
+
+difference-requires : tie.Need-difference-requires
+difference-requires c κs = search needs
 
 narrow-limits-requires : tie.Need-narrow-limits-requires
 narrow-limits-requires c κs = search needs
 
 call-refusal-requires : tie.Need-call-refusal-requires
-call-refusal-requires c κs = rw (c .before .before .narrow-limits .ensures) (omega arith)
+call-refusal-requires c κs = let limits = c .before .before in (rw (limits .narrow-limits .ensures) (omega arith), limits .before .difference .ensures)
 
 same-length : tie.Need-same-length
 same-length c = search needs
@@ -90,24 +111,29 @@ load-head-requires : tie.Need-load-head-requires
 load-head-requires c κs = search needs
 
 add-request : tie.Need-add-request
-add-request c = let k = in-head (c .before .before .before) in omega arith
+add-request c = let k = in-head (passed c) in omega arith
 
 mul-request : tie.Need-mul-request
-mul-request c = let k = in-head (c .before .before .before) in omega arith
+mul-request c = let k = in-head (passed c) in omega arith
 
 element-copy-out-request : tie.Need-element-copy-out-request
-element-copy-out-request c = let k = in-head (c .before .before .before) in omega arith
+element-copy-out-request c = let k = in-head (passed c) in omega arith
 
 request-requires : tie.Need-request-requires
 request-requires c κs =
-    let here = (c .before .before .before .before .before .before .before .before) in
+    let at = headed c in
+    let here = passed at in
     let a = begun here .args in
-    rw (c .before .before .before .before .before .before .before .load .ensures, c .before .before .before .before .before .load-head .ensures) (free here, bank-word (a .head .now) (a .bank) (in-head here))
+    let refused : Setting → Head → Refusal = λ σ h. callRefusal limits01 σ (a .seeds .now) (state h (a .counters .now) (a .ticks .now) (a .rows .now) (a .threads .now)) (a .tick) (a .bank) (a .thread) in (
+      ap₂ refused (loaded at .load .ensures) (at .load-head .ensures) ∙ free here,
+      bank-word (a .head .now) (a .bank) (in-head here) ∙ ap (λ h. getD (h .bank) (a .bank) 0) (sym (at .load-head .ensures)),
+      λ e. compared here .difference .ensures .nowhere (eqb-true _ 0 e),
+    )
 
 store-answered-requires : tie.Need-store-answered-requires
 store-answered-requires c κs =
     let at = (c .before .before .before .before .before .before .before .before .before .before) in
-    let start = begun (passed at) in
+    let start = begun (passed (headed (at .before))) in
     let a = start .args in
     held (s start) (a .seeds .now) (a .head .now) (a .counters .now) (a .ticks .now) (a .rows .now) (a .threads .now)
     (a .tick) (a .bank) (a .thread) (a .row) (at .request .result .answer) (after at) (left-by at)
@@ -131,16 +157,17 @@ returns-2 : tie.Need-returns-2
 returns-2 c =
     let told = (c .before) in
     let at = (told .before .before .before .before .before .before .before .before .before .before .before) in
-    let start = begun (passed at) in
+    let start = begun (passed (headed (at .before))) in
     let a = start .args in
     rw (told .store-answered .ensures, c .out-words .ensures)
     (left-request (s start) (a .seeds .now) (a .head .now) (a .counters .now) (a .ticks .now) (a .rows .now) (a .threads .now)
-    (a .tick) (a .bank) (a .thread) (a .row) (a .out .now) (ap refusalNumber (free (passed at))) (at .request .result .answer) (after at) (left-by at))
+    (a .tick) (a .bank) (a .thread) (a .row) (a .out .now) (ap refusalNumber (free (passed (headed (at .before))))) (at .request .result .answer) (after at) (left-by at))
 
 pub throttle-request-spec : {M : Type 1} → statement M
 throttle-request-spec =
     tie.close
     (tie.spec
+    difference-requires
     narrow-limits-requires
     call-refusal-requires
     same-length

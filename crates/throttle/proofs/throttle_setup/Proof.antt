@@ -26,7 +26,7 @@ s c = settingOf (c .args .setting .now)
 
 -- the start, from where the code is known and from where it is 0
 abbrev asked : tie.After-lent-refusal → tie.Start
-asked c = (c .before .before .before .before .before .before .before .before .before)
+asked c = (c .before .before .before .before .before .before .before .before .before .before)
 
 abbrev begun : tie.Else1 → tie.Start
 begun c = asked (c .before)
@@ -45,11 +45,14 @@ free c = sym (code-is (c .before)) ∙ c .if1 .left
 ok : (c : tie.Else1) → let start = begun c in SetUp limits01 (s start) (start .args .seeds .now) (entry start)
 ok c = let start = begun c in set-up limits01 (s start) (start .args .seeds .now) (entry start) (number-none _ (free c))
 
+difference-requires : tie.Need-difference-requires
+difference-requires c κs = search needs
+
 narrow-limits-requires : tie.Need-narrow-limits-requires
 narrow-limits-requires c κs = search needs
 
 lent-refusal-requires : tie.Need-lent-refusal-requires
-lent-refusal-requires c κs = rw (c .before .before .narrow-limits .ensures) (omega arith)
+lent-refusal-requires c κs = let limits = c .before .before in (rw (limits .narrow-limits .ensures) (omega arith), limits .before .difference .ensures)
 
 same-length : tie.Need-same-length
 same-length c = search needs
@@ -101,6 +104,7 @@ pub throttle-setup-spec : {M : Type 1} → statement M
 throttle-setup-spec =
     tie.close
     (tie.spec
+    difference-requires
     narrow-limits-requires
     lent-refusal-requires
     same-length

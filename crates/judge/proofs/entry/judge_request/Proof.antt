@@ -9,7 +9,7 @@ abbrev entry : tie.After-request → State
 entry c = let a = c .before .before .before .before .before .before .before .before .before .before .args in state (a .h) (a .counters .now) (a .ticks .now) (a .rows .now) (a .threads .now)
 
 abbrev exit : tie.After-request → State
-exit c = let q = c .request in state (q .result .head) (q .last .1 .1 .1 .0) (q .last .1 .1 .1 .1 .0) (q .last .1 .1 .1 .1 .1 .0) (q .last .1 .1 .1 .1 .1 .1 .0)
+exit c = let q = c .request in let buffers = q .last .1 .1 .1 .1 in state (q .result .head) (buffers .0) (buffers .1 .0) (buffers .1 .1 .0) (buffers .1 .1 .1 .0)
 
 request-requires : tie.Need-request-requires
 request-requires c κs = search needs

@@ -1,0 +1,5 @@
+pub mod Xor
+pub mod Lanes
+pub mod House
+pub mod Bytes
+pub mod Arms

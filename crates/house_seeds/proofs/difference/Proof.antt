@@ -1,0 +1,70 @@
+-- `house_seeds::difference` meets its contract: seed by seed, what the bits say of the seeds passed.
+use Prim.Native.Nat.{_-_, _≤_}
+use mathlib.Core.Path.{_≡_, sym, ap, _∙_}
+use native.Mathlib.Omega.{arith}
+use lib.ListN.{length}
+use Rattle.rules.specs.Setting.{seedsInRange}
+use Rattle.rules.specs.Samples.{house}
+use Rattle.house_seeds.proofs.Same.{Passed, passed-none, passed-more, passed-all, other-length}
+use borrow.Author.Needs.{needs}
+use Rattle.house_seeds.proofs.difference.Statement.{statement}
+use Rattle.house_seeds.proofs.difference.Tie as tie
+
+abbrev Inv-loop : tie.InvT-loop
+Inv-loop seeds same away₀ i₀ away i = (i ≤ 64) × Passed seeds i away
+
+abbrev μ-loop : tie.MeasureT-loop
+μ-loop seeds same away₀ i₀ away i = 64 - i
+
+returns : tie.Need-returns Inv-loop μ-loop
+returns c = other-length (c .before .args .seeds .now) (c .if1 .taken)
+
+loop-holds : tie.Need-loop-holds Inv-loop μ-loop
+loop-holds c = (omega arith, passed-none _)
+
+mul-away : tie.Need-mul-away Inv-loop μ-loop
+mul-away c = search needs
+
+shared-slice-read-away : tie.Need-shared-slice-read-away Inv-loop μ-loop
+shared-slice-read-away c = omega arith
+
+mul-away-2 : tie.Need-mul-away-2 Inv-loop μ-loop
+mul-away-2 c = search needs
+
+array-read-away : tie.Need-array-read-away Inv-loop μ-loop
+array-read-away c = search needs
+
+add-i : tie.Need-add-i Inv-loop μ-loop
+add-i c = search needs
+
+loop-less : tie.Need-loop-less Inv-loop μ-loop
+loop-less c = search needs
+
+loop-again : tie.Need-loop-again Inv-loop μ-loop
+unfolding house
+loop-again c =
+    let l = c .before .before .loop in
+    (omega arith, passed-more _ (l .i) (l .away) (l .inv .1))
+
+returns-2 : tie.Need-returns-2 Inv-loop μ-loop
+returns-2 c =
+    let l = c .before .loop in
+    let all : l .i ≡ 64 = omega arith in
+    passed-all _ (l .away) (c .before .before .if1 .left) (rw all at (l .inv .1))
+
+pub difference-spec : {M : Type 1} → statement M
+difference-spec =
+    tie.close
+    (tie.spec
+    Inv-loop
+    μ-loop
+    returns
+    loop-holds
+    mul-away
+    shared-slice-read-away
+    mul-away-2
+    array-read-away
+    add-i
+    loop-less
+    loop-again
+    returns-2)
