@@ -11,6 +11,7 @@
 //! - `campaign`, `tally`, `mark_tally`: numbered runs, and what they reached
 //! - `rings`: histories at the edges of refusal 7
 //! - `levels`: counters around N, for the openings left
+//! - `hashes`, `near_house`: the house seeds, seeds next to them and others
 //! - `twins`: one setting under both profiles
 //! - `writer`, `planner`: block 0 of logs, and the delays of settings
 //! - `adversary`: rows hammered as often as the answers allow
@@ -19,10 +20,12 @@ pub mod adversary;
 pub mod call;
 pub mod campaign;
 mod contents;
+pub mod hashes;
 pub mod levels;
 mod library;
 mod mark_tally;
 mod memory;
+mod near_house;
 pub mod numbers;
 pub mod pair;
 pub mod planner;

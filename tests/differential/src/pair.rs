@@ -57,6 +57,12 @@ impl Pair {
         large.call(call).number
     }
 
+    /// Gives both as many other seeds, in the same memory.
+    pub fn take_seeds(&mut self, seeds: &[u16]) {
+        self.library.memory.seeds.cells_mut().copy_from_slice(seeds);
+        self.second.seeds.copy_from_slice(seeds);
+    }
+
     /// The library's memory.
     pub fn memory(&self) -> &Memory {
         &self.library.memory

@@ -1,6 +1,7 @@
 //! Settings for the tests: small ones, medium ones, those of real chips, and
 //! those that stand at the bounds.
 
+use crate::near_house::changed;
 use crate::numbers::Numbers;
 use crate::profiles::NO_PROFILE;
 use second::setting::{accept, history_length, house_seeds, row_bound};
@@ -218,11 +219,16 @@ fn relations(base: &Setting) -> Vec<Setting> {
     settings
 }
 
-/// 64 seeds of 0 to 1,023, in many cases such that rows share counters.
+/// 64 seeds of 0 to 1,023, in many cases such that rows share counters, or nearly
+/// the house seeds.
 pub fn seeds(numbers: &mut Numbers) -> Vec<u16> {
     let mut seeds = house_seeds();
-    match numbers.within(0, 6) {
+    match numbers.within(0, 7) {
         0 | 1 => {}
+        6 => {
+            let (word, bit) = (numbers.within(0, 63), numbers.within(0, 9));
+            seeds = changed(word as usize, bit as u32).1;
+        }
         2 => seeds.fill(0),
         3 => seeds.iter_mut().for_each(|seed| *seed %= 4),
         4 => seeds.copy_within(0..16, 32),

@@ -2,33 +2,15 @@
 //! and the planner. A test campaign switches on one of them and asks whether it
 //! would notice. `Fault::None` is the plain specification.
 //!
-//! - `CALLS`: of the four calls, but for the next two lists
+//! - `CALLS`: of the four calls, but for the lists from `LEFT` to `SMALL`
 //! - `LEFT`: of the openings left that a request reports
+//! - `TABLE`: of the hash by bytes, shown under the house seeds only
+//! - `HOUSE`: of the decision that seeds are the house seeds, shown under others
 //! - `PROFILE`: of the profile mark in the four calls, and of refusal 16
 //! - `SMALL`: of the decisions of the small profile
 //! - `CHECKER`: of the profile mark in a log that is read
 //! - `WRITER`: of the profile mark in a log that is written
 //! - `PLANNER`: of the profile mark in the planner
-
-/// Lists the variants once, for the enum, for `Fault::ALL` and for its parts.
-macro_rules! faults {
-    ($([$part:ident] $($(#[$text:meta])* $name:ident,)*)*) => {
-        /// One wrong behaviour, or none.
-        #[derive(Clone, Copy, Debug, Default, PartialEq, Eq)]
-        pub enum Fault {
-            /// The plain specification.
-            #[default]
-            None,
-            $($($(#[$text])* $name,)*)*
-        }
-
-        impl Fault {
-            /// Every wrong behaviour, without `None`.
-            pub const ALL: &'static [Fault] = &[$($(Fault::$name,)*)*];
-            $(pub const $part: &'static [Fault] = &[$(Fault::$name,)*];)*
-        }
-    };
-}
 
 faults! {
     [CALLS]
@@ -231,6 +213,62 @@ faults! {
     LeftKeptOnQuota,
     /// A refusal writes openings left.
     LeftWrittenOnRefusal,
+    [TABLE]
+    /// The high and the low byte of the row are exchanged.
+    BytesExchanged,
+    /// Only the low byte is hashed.
+    BytesLowOnly,
+    /// Only the high byte is hashed.
+    BytesHighOnly,
+    /// The words of the high byte are those of the low byte.
+    BytesHighAsLow,
+    /// The two words are joined by or.
+    BytesOred,
+    /// The two words are added modulo 1,024.
+    BytesAdded,
+    /// Each word is that of the next value.
+    BytesShifted,
+    /// Function 1 has the words of function 0.
+    BytesZeroForOne,
+    /// The first word is wrong: function 0, high byte 0.
+    BytesFirstWordWrong,
+    /// A word in the middle is wrong: function 1, low byte 232.
+    BytesMiddleWordWrong,
+    /// The last word is wrong: function 3, low byte 255.
+    BytesLastWordWrong,
+    /// The words are cut to 8 bits.
+    BytesCut,
+    [HOUSE]
+    /// The first seed is not compared.
+    HouseFirstLeftOut,
+    /// Seed 29, function 1 and bit 13, is not compared.
+    HouseMiddleLeftOut,
+    /// The last seed is not compared.
+    HouseLastLeftOut,
+    /// The seeds of function 0 alone are compared.
+    HouseFirstFunctionOnly,
+    /// The seeds of function 3 are not compared.
+    HouseLastFunctionLeftOut,
+    /// The first seed of each function alone is compared.
+    HouseFirstOfEachOnly,
+    /// The house seeds may stand in any order.
+    HouseInAnyOrder,
+    /// The low bytes of the seeds are compared.
+    HouseLowBytesOnly,
+    /// The bit of 512 is not compared, nor are those above it.
+    HouseHighestBitIgnored,
+    /// The lowest bits of the seeds are not compared.
+    HouseLowestBitIgnored,
+    /// One seed may be another.
+    HouseOneMayDiffer,
+    /// One house seed in its place is enough.
+    HouseOneIsEnough,
+    /// The table is taken for all seeds.
+    HouseAlways,
+    /// An activation is counted by the table under all seeds.
+    HouseAlwaysInCount,
+    /// The estimate is read by the table under all seeds.
+    HouseAlwaysInEstimate,
     [PROFILE]
     /// 16 is tested before 2.
     ProfileBeforeTwo,

@@ -4,10 +4,11 @@
 use crate::fault::Fault;
 use crate::setting::Rules;
 use crate::state::State;
+use crate::table;
 
-/// The four counters of a row: function f is the exclusive or of its seeds i
-/// for which bit i of the row is set. Needs the 64 seeds of an accepted
-/// setting.
+/// The seed rule, which gives a row's four counters under any seeds: function f
+/// is the exclusive or of its seeds i for which bit i of the row is set. Needs
+/// the 64 seeds of an accepted setting.
 pub fn hash(seeds: &[u16], row: u16) -> [usize; 4] {
     std::array::from_fn(|function| {
         let mut word = 0;
@@ -20,18 +21,31 @@ pub fn hash(seeds: &[u16], row: u16) -> [usize; 4] {
     })
 }
 
-/// The counter places of a row in this setting.
+/// The counter places of a row in this setting: from the table of the house
+/// seeds if it has them, else by the seed rule.
 fn places(rules: &Rules, row: u16) -> [usize; 4] {
     if rules.has(Fault::SeedsReversed) {
         return hash(rules.seeds, row.reverse_bits());
     }
+    if table::is_house(rules.seeds, rules.fault) {
+        return table::hash(row, rules.fault);
+    }
     hash(rules.seeds, row)
+}
+
+/// The places for one use of them. Only a fault, `apart`, takes the table for
+/// other seeds in this use and not in the other.
+fn places_for(rules: &Rules, row: u16, apart: Fault) -> [usize; 4] {
+    if rules.has(apart) {
+        return places(&rules.with(Fault::HouseAlways), row);
+    }
+    places(rules, row)
 }
 
 /// An activation adds 1 to each distinct counter once, in both filters, if it
 /// is below N.
 pub fn count(rules: &Rules, state: &mut State, bank: usize, row: u16) {
-    let places = places(rules, row);
+    let places = places_for(rules, row, Fault::HouseAlwaysInCount);
     let filters = if rules.has(Fault::FilterZeroTwice) {
         [0, 0]
     } else {
@@ -59,7 +73,9 @@ pub fn counters(
     (bank, filter): (usize, usize),
     row: u16,
 ) -> [u16; 4] {
-    places(rules, row).map(|place| state.counters[bank * 2048 + filter * 1024 + place])
+    let start = bank * 2048 + filter * 1024;
+    let places = places_for(rules, row, Fault::HouseAlwaysInEstimate);
+    places.map(|place| state.counters[start + place])
 }
 
 /// The estimate that a filter reports of a row: the least of the row's four

@@ -8,6 +8,7 @@
 //! - `state`: the lent memory and refusals 6 and 7
 //! - `clock`: epochs and the clearing at an epoch turn
 //! - `filter`: the counting Bloom filters and the estimate they report
+//! - `table`: the hash by bytes, under the house seeds
 //! - `decision`: the rules about a request and what an activation writes
 //! - `left`: the openings left that a request reports
 //! - `quota`: the quota rule, the thread's total in flight and what a done takes
@@ -15,7 +16,11 @@
 //! - `log`: the log checker
 //! - `write`: the log writer and an encoder for logs
 //! - `plan`: the planner, that is the delays with which a setting is accepted
-//! - `fault`: wrong behaviours that can be switched on, one at a time
+//! - `fault`: wrong behaviours that can be switched on, one at a time, made by
+//!   `listing` from one list
+
+#[macro_use]
+mod listing;
 
 mod clock;
 pub mod decision;
@@ -29,6 +34,7 @@ pub mod profile;
 pub mod quota;
 pub mod setting;
 pub mod state;
+pub mod table;
 pub mod write;
 
 pub use fault::Fault;

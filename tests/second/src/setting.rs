@@ -78,12 +78,25 @@ impl Rules<'_> {
     }
 }
 
-/// Function f, bit i: (37(i+1)^2 + 211f + 89if) mod 1,024.
+/// The house seed of function f and bit i: (37(i+1)^2 + 211f + 89if) mod 1,024.
+pub const fn house_seed(f: usize, i: usize) -> u16 {
+    ((37 * (i + 1) * (i + 1) + 211 * f + 89 * i * f) % 1024) as u16
+}
+
+/// The 64 house seeds, function by function, bit 0 first.
+pub const HOUSE: [u16; 64] = {
+    let mut seeds = [0; 64];
+    let mut k = 0;
+    while k < 64 {
+        seeds[k] = house_seed(k / 16, k % 16);
+        k += 1;
+    }
+    seeds
+};
+
+/// The same as a list.
 pub fn house_seeds() -> Vec<u16> {
-    let word = |f: u16, i: u16| (37 * (i + 1) * (i + 1) + 211 * f + 89 * i * f) % 1024;
-    (0..4)
-        .flat_map(|f| (0..16).map(move |i| word(f, i)))
-        .collect()
+    HOUSE.to_vec()
 }
 
 /// H = 4 * ceil(tD/tFAW); none where tFAW is 0.

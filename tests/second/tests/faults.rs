@@ -1,6 +1,6 @@
 //! Every wrong behaviour of the calls that can be switched on shows in a campaign
 //! of small runs, on memory set up and on memory of any contents. Those of the
-//! profile mark have tests of their own.
+//! hash by bytes and of the profile mark have tests of their own.
 
 mod common;
 
@@ -58,6 +58,8 @@ fn every_fault_belongs_to_a_part() {
     let parts = [
         Fault::CALLS,
         Fault::LEFT,
+        Fault::TABLE,
+        Fault::HOUSE,
         Fault::PROFILE,
         Fault::SMALL,
         Fault::CHECKER,

@@ -1,13 +1,13 @@
 //! Compares the library with the second implementation after every call of a
-//! campaign, and on listed histories and counters; with itself under both
-//! profiles; and the log writer and the planner. Arguments, both optional: the
-//! seed and the number of runs.
+//! campaign, on listed histories and counters, and under the house seeds and seeds
+//! next to them; with itself under both profiles; and the log writer and the
+//! planner. Arguments, both optional: the seed and the number of runs.
 
 use differential::campaign::Campaign;
 use differential::settings::{accepted, BASES};
 use differential::side::Library;
 use differential::tally::{Tally, LEAST};
-use differential::{levels, planner, rings, twins, writer};
+use differential::{hashes, levels, planner, rings, twins, writer};
 use second::Fault;
 use std::fmt::Debug;
 use std::process::ExitCode;
@@ -39,7 +39,7 @@ fn main() -> ExitCode {
             return ExitCode::FAILURE;
         }
     }
-    if !(listed() && profiles(seed) && others(seed)) {
+    if !(listed() && hashed(seed) && profiles(seed) && others(seed)) {
         return ExitCode::FAILURE;
     }
     println!("{tally}");
@@ -68,6 +68,26 @@ fn listed() -> bool {
     let counters = levels::compare(Fault::None)
         .map(|told| format!("{} opened with 0 left, {} with more", told.none, told.some));
     none("listed histories", histories) && none("listed counters", counters)
+}
+
+/// Compares under the house seeds and under others.
+fn hashed(seed: u64) -> bool {
+    let compared = hashes::compare(seed, Fault::None).and_then(|told| {
+        let text = format!("{told:?}");
+        // Every row once under the house seeds; ten bits of each word, and six that
+        // the four calls refuse.
+        let enough = told.house > 66_000
+            && told.changed > 64 * 10 * 20
+            && told.refused == 64 * 6 * 4
+            && told.other.min(told.held) > 1_000
+            && told.in_turn > 500;
+        if enough {
+            Ok(text)
+        } else {
+            Err(format!("too few: {text}"))
+        }
+    });
+    none("house seeds and others", compared)
 }
 
 /// Compares the library with mark 1 and with mark 0.

@@ -1,19 +1,22 @@
 //! Shows that the comparison sees: the library against the second
 //! implementation with one fault switched on must differ, for each fault of the
-//! calls, of the log writer and of the planner. Those of the log checker are shown
-//! by tests/log/run. Argument, optional: the seed.
+//! calls, of the hash by bytes, of the log writer and of the planner. Those of the
+//! log checker are shown by tests/log/run. Argument, optional: the seed.
 
 use differential::campaign::Campaign;
+use differential::numbers::Numbers;
 use differential::side::Second;
 use differential::tally::Tally;
-use differential::{levels, planner, rings, twins, writer};
+use differential::{hashes, levels, planner, rings, twins, writer};
 use second::{Fault, Setting, State};
 use std::process::ExitCode;
 
 /// Runs within which a fault has to show.
 const RUNS: u64 = 10_000;
 /// Faults that are to be planted at least.
-const FAULTS: usize = 154;
+const FAULTS: usize = 181;
+/// Bits of the 64 seeds, up to 1,023.
+const BITS: usize = 64 * hashes::BITS as usize;
 
 fn main() -> ExitCode {
     let seed = std::env::args()
@@ -22,19 +25,34 @@ fn main() -> ExitCode {
     println!("faults: seed {seed}");
     let campaign = Campaign::new(seed);
     let calls = [Fault::CALLS, Fault::LEFT, Fault::PROFILE, Fault::SMALL].concat();
-    let planted = calls.len() + Fault::WRITER.len() + Fault::PLANNER.len();
+    let hashed = [Fault::TABLE, Fault::HOUSE].concat();
+    let planted = calls.len() + hashed.len() + Fault::WRITER.len() + Fault::PLANNER.len();
     let caught = caught(&calls, |fault| in_calls(&campaign, fault))
+        + caught(&hashed, |fault| hashes::compare(seed, fault).err())
         + caught(Fault::WRITER, |fault| writer::compare(seed, fault).err())
         + caught(Fault::PLANNER, |fault| planner::compare(seed, fault).err());
     println!("faults: {caught} of {planted} caught");
     println!("faults: the profiles beside each other");
     let beside = caught_beside(seed);
     println!("faults: {beside} of {} caught", Fault::SMALL.len());
+    let bits = bits_seen(seed);
+    println!("faults: the table under one changed bit of a house seed: {bits} of {BITS} caught");
     let all = planted + Fault::CHECKER.len() == Fault::ALL.len();
-    if !all || caught < planted || caught < FAULTS || beside < Fault::SMALL.len() {
+    if !all || caught < planted || caught < FAULTS || beside < Fault::SMALL.len() || bits < BITS {
         return ExitCode::FAILURE;
     }
     ExitCode::SUCCESS
+}
+
+/// For how many bits of the seeds it shows if the table is taken for the house
+/// seeds with that bit changed, as it is where its word is not compared.
+fn bits_seen(seed: u64) -> usize {
+    let numbers = &mut Numbers::new(seed);
+    let mut shows = |k: &usize| {
+        let (word, bit) = (k % 64, (k / 64) as u32);
+        hashes::one_changed(numbers, word, bit, Fault::HouseAlways, &mut 0).is_err()
+    };
+    (0..BITS).filter(|k| shows(k)).count()
 }
 
 /// How many of these faults show, each by the first difference that is found.
