@@ -5,7 +5,7 @@ use Prim.Native.Nat.{ℕ, _+_, _/_, _%_, _^_, _<_}
 use native.Mathlib.Nat.{mod-eq-of-lt, div-div-eq-div-mul}
 use native.Mathlib.Omega.{arith}
 use lib.Pow.{pow-add}
-use lib.Bits.{bitAnd, bitXor, and-mask, and-zero-r, and-shr, and-mod, xor-shr, xor-mod}
+use lib.Bits.{bitAnd, bitXor, and-mask, and-zero-r, and-shr, and-mod}
 use Rattle.hash_words.specs.Lanes.{joined, lane}
 use Rattle.hash_words.proofs.Xor.{xor-assoc, xor-swap}
 use Rattle.hash_words.proofs.Lanes.{lane-xor, lanes}

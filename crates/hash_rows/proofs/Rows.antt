@@ -1,19 +1,15 @@
 -- One row more, and all rows.
-use mathlib.Core.Path.{_≡_, sym, ap, _∙_}
+use mathlib.Core.Path.{_≡_, ap}
 use mathlib.Core.List.{List}
 use mathlib.Core.Bool.{true, false}
-use Prim.Native.Nat.{ℕ, _+_, _<_}
-use native.Mathlib.Omega.{arith}
+use Prim.Native.Nat.{ℕ, _+_}
 use native.Mathlib.Numerals.{add-one}
-use lib.Dec.{leb}
 use lib.Bits.{bitXor}
 use lib.ListN.{length, getD}
-use borrow.Author.Tests.{lt-leb, le-leb}
 use Rattle.rules.specs.Setting.{seedsInRange}
 use Rattle.rules.specs.Hash.{places}
 use Rattle.hash_words.specs.Lanes.{joined}
 use Rattle.hash_words.specs.Words.{fourHashes}
-use Rattle.house_seeds.specs.Away.{Away}
 use Rattle.hash_rows.specs.Rows.{hashedTo, hashedRows}
 
 -- four places, joined, are the row's four hashes

@@ -5,7 +5,7 @@ use mathlib.Core.Bool.{Bool, true, _&&_}
 use Prim.Native.Nat.{ℕ, zero, suc, _+_, _/_, _^_, _<_, _≤_}
 use native.Mathlib.Omega.{arith}
 use native.Mathlib.Numerals.{add-one}
-use lib.Dec.{T, eqb, leb, eqb→eq, leb→le, le→leb}
+use lib.Dec.{eqb, leb, eqb→eq, leb→le, le→leb}
 use lib.Bits.{bitOr, bitXor, and-le-l, and-le-r, or-add-and, or-lt, xor-add-and, xor-self, xor-shr, xor-zero-r}
 use lib.ListN.{length, getD}
 use lib.Seq.{ext-getD}

@@ -19,7 +19,9 @@ at-end-requires : tie.Need-at-end-requires
 at-end-requires c κs = search needs
 
 returns : tie.Need-returns
-returns c = (filled-end _ (before (c .before .before .before .before .before .before .before .before)) _ (c .before .before .before .before .before .before .before .before .args .block .now) (c .at-end .result) (c .before .before .before .before .before .before .before .before .args .filled) (c .before .enum-told2 .given .1) (c .at-end .ensures), c .before .before .before .before .before .before .before .before .pre .1)
+returns c =
+    let start = c .before .before .before .before .before .before .before .before in
+    (filled-end _ (before start) _ (start .args .block .now) (c .at-end .result) (start .args .filled) (c .before .enum-told2 .given .1) (c .at-end .ensures), start .pre .1)
 
 enum-told-3 : tie.Need-enum-told-3
 enum-told-3 c = search needs
@@ -28,7 +30,9 @@ at-end-requires-2 : tie.Need-at-end-requires-2
 at-end-requires-2 c κs = search needs
 
 returns-2 : tie.Need-returns-2
-returns-2 c = (filled-cut _ (before (c .before .before .before .before .before .before .before .before)) _ (c .before .before .before .before .before .before .before .before .args .block .now) (c .at-end2 .result) (c .before .before .before .before .before .before .before .before .args .filled) (c .before .enum-told3 .given .1) (c .at-end2 .ensures), c .before .before .before .before .before .before .before .before .pre .1)
+returns-2 c =
+    let start = c .before .before .before .before .before .before .before .before in
+    (filled-cut _ (before start) _ (start .args .block .now) (c .at-end2 .result) (start .args .filled) (c .before .enum-told3 .given .1) (c .at-end2 .ensures), start .pre .1)
 
 judge-block-requires : tie.Need-judge-block-requires
 judge-block-requires c κs = c .before .before .before .before .before .before .before .before .before .before .before .pre
@@ -46,7 +50,12 @@ same-length-4 : tie.Need-same-length-4
 same-length-4 c = search needs
 
 returns-3 : tie.Need-returns-3
-returns-3 c = let q = c .before .before .before .before .before .before .before .before .judge-block in (filled-whole _ (before (c .before .before .before .before .before .before .before .before .before .before .before .before .before .before .before .before .before .before .before .before)) _ (c .before .before .before .before .before .before .before .before .before .before .before .before .before .before .before .before .before .before .before .before .args .block .now) _ (c .before .before .before .before .before .before .before .before .before .before .before .before .before .before .before .before .before .before .before .before .args .filled) _ (c .before .before .before .before .before .before .before .before .before .before .before .before .before .enum-told .given .1) (q .ensures .0), q .ensures .1)
+returns-3 c =
+    let at = c .before .before .before .before .before .before .before .before in
+    let here = at .before .before .before .before .before in
+    let start = here .before .before .before .before .before .before .before in
+    let q = at .judge-block in
+    (filled-whole _ (before start) _ (start .args .block .now) _ (start .args .filled) _ (here .enum-told .given .1) (q .ensures .0), q .ensures .1)
 
 pub judge-filled-spec : {M : Type 1} → statement M
 judge-filled-spec =

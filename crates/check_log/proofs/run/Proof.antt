@@ -64,12 +64,24 @@ slice-aggregate-judge-filled-4 c = search needs
 judge-filled-requires : tie.Need-judge-filled-requires Inv-loop μ-loop
 judge-filled-requires c κs = let i = c .before .before .before .before .before .before .before .before .loop .inv in (i .5, i .7)
 
+-- the way back from a judged block: how the block was filled, and from there the loop's head
+abbrev filled : tie.After-judge-filled Inv-loop μ-loop → tie.After-fill Inv-loop μ-loop
+filled c = (c .before .before .before .before .before .before .before)
+
+abbrev looped : tie.After-fill Inv-loop μ-loop → tie.At-loop Inv-loop μ-loop
+looped c = (c .before .before)
+
+-- the block still has 512 bytes
+whole : (c : tie.After-fill Inv-loop μ-loop) → length (c .fill .last .0) ≡ 512
+whole c = omega (arith, c .fill .kept .0, looped c .loop .inv .0)
+
 returns : tie.Need-returns Inv-loop μ-loop
 returns c =
-    let i = c .before .before .before .before .before .before .before .before .before .before .before .before .before .before .loop .inv in
-    let q = c .before .before .before .before .before .judge-filled in
-    let n : length (c .before .before .before .before .before .before .before .before .before .before .before .before .fill .last .0) ≡ 512 = omega (arith, c .before .before .before .before .before .before .before .before .before .before .before .before .fill .kept .0, i .0) in
-    is-over (c .before .before .before .before .before .before .before .before .before .before .before .before .fill .result) (read (c .before .before .before .before .before .before .before .before .before .before .before .before .before .before)) (next (c .before .before .before .before .before)) (c .before .before .before .before .before .before .before .before .before .before .before .before .fill .last .0) (q .result .over) (q .result .report) (i .6) n (q .ensures .0 .follows) (c .if1 .taken)
+    let at = c .before .before .before .before .before in
+    let q = at .judge-filled in
+    let f = filled at in
+    let here = looped f in
+    is-over (f .fill .result) (read here) (next at) (f .fill .last .0) (q .result .over) (q .result .report) (here .loop .inv .6) (whole f) (q .ensures .0 .follows) (c .if1 .taken)
 
 loop-less : tie.Need-loop-less Inv-loop μ-loop
 loop-less c =
@@ -80,16 +92,19 @@ loop-less c =
 
 loop-again : tie.Need-loop-again Inv-loop μ-loop
 loop-again c =
-    let q = c .before .before .before .before .before .before .judge-filled in
-    let i = c .before .before .before .before .before .before .before .before .before .before .before .before .before .before .before .loop .inv in
-    let n : length (c .before .before .before .before .before .before .before .before .before .before .before .before .before .fill .last .0) ≡ 512 = omega (arith, c .before .before .before .before .before .before .before .before .before .before .before .before .before .fill .kept .0, i .0) in (
-      omega (arith, n),
+    let at = c .before .before .before .before .before .before in
+    let q = at .judge-filled in
+    let f = filled at in
+    let here = looped f in
+    let i = here .loop .inv in
+    let on = c .before .if1 .left in (
+      omega (arith, whole f),
       omega (arith, q .kept .1 .1 .0, i .1),
       omega (arith, q .kept .1 .1 .1 .0, i .2),
       omega (arith, q .kept .1 .1 .1 .1 .0, i .3),
       omega (arith, q .kept .1 .1 .1 .1 .1 .0, i .4),
-      q .ensures .0 .ready (c .before .if1 .left),
-      goes-on (c .before .before .before .before .before .before .before .before .before .before .before .before .before .fill .result) (read (c .before .before .before .before .before .before .before .before .before .before .before .before .before .before .before)) (next (c .before .before .before .before .before .before)) (c .before .before .before .before .before .before .before .before .before .before .before .before .before .fill .last .0) (q .result .over) (q .result .report) (i .6) n (q .ensures .0 .follows) (c .before .if1 .left),
+      q .ensures .0 .ready on,
+      goes-on (f .fill .result) (read here) (next at) (f .fill .last .0) (q .result .over) (q .result .report) (i .6) (whole f) (q .ensures .0 .follows) on,
       q .ensures .1,
     )
 

@@ -6,12 +6,19 @@ use borrow.Author.Needs.{needs}
 use Rattle.checker_later.proofs.judge_later.Statement.{statement}
 use Rattle.checker_later.proofs.judge_later.Tie as tie
 
+-- the start, from where the arguments are ready and from where the records are judged
+abbrev begun : tie.After-judge-records-arg4 → tie.Start
+begun c = (c .before .before .before .before .before .before .before .before .before .before .before .before .before)
+
+abbrev judged : tie.After-struct-known → tie.After-judge-records
+judged c = (c .before .before .before .before .before .before .before .before .before .before .before)
+
 slice-aggregate-judge-records : tie.Need-slice-aggregate-judge-records
 slice-aggregate-judge-records c = search needs
 
 judge-records-requires : tie.Need-judge-records-requires
 judge-records-requires c κs =
-    let h = (c .before .before .before .before .before .before .before .before .before .before .before .before .before) .pre in
+    let h = begun c .pre in
     let ok = h .0 in
     let m = ok .model (h .1) in
     let few = h .2 in
@@ -19,7 +26,7 @@ judge-records-requires c κs =
 
 add-t28 : tie.Need-add-t28
 add-t28 c =
-    let few = (c .before .before .before .before .before .before .before .before .before .before .before .before .before .before .before .before .before .before .before .before .before .before .before .before .before) .pre .2 in
+    let few = begun (judged c .before) .pre .2 in
     omega arith
 
 same-length : tie.Need-same-length
@@ -36,9 +43,9 @@ same-length-4 c = search needs
 
 returns : tie.Need-returns
 returns c =
-    let start = c .before .before .before .before .before .before .before .before .before .before .before .before .before .before .before .before .before .before .before .before .before .before .before .before .before in
+    let start = begun (judged c .before) in
     let a = start .args in
-    let q = c .before .before .before .before .before .before .before .before .before .before .before .judge-records in
+    let q = judged c .judge-records in
     let h = start .pre in
     let buffers = q .last .1 .1 .1 .1 in (
       later-judged (a .x .setting) (a .x .seeds) (a .block .now) (a .x .progress)

@@ -1,9 +1,7 @@
 -- `house_seeds::difference` meets its contract: seed by seed, what the bits say of the seeds passed.
 use Prim.Native.Nat.{_-_, _≤_}
-use mathlib.Core.Path.{_≡_, sym, ap, _∙_}
+use mathlib.Core.Path.{_≡_}
 use native.Mathlib.Omega.{arith}
-use lib.ListN.{length}
-use Rattle.rules.specs.Setting.{seedsInRange}
 use Rattle.rules.specs.Samples.{house}
 use Rattle.house_seeds.proofs.Same.{Passed, passed-none, passed-more, passed-all, other-length}
 use borrow.Author.Needs.{needs}

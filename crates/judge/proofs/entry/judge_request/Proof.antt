@@ -5,8 +5,11 @@ use borrow.Author.Needs.{needs}
 use Rattle.judge.proofs.entry.judge_request.Statement.{statement}
 use Rattle.judge.proofs.entry.judge_request.Tie as tie
 
+abbrev begun : tie.After-request → tie.Start
+begun c = (c .before .before .before .before .before .before .before .before .before .before)
+
 abbrev entry : tie.After-request → State
-entry c = let a = c .before .before .before .before .before .before .before .before .before .before .args in state (a .h) (a .counters .now) (a .ticks .now) (a .rows .now) (a .threads .now)
+entry c = let a = begun c .args in state (a .h) (a .counters .now) (a .ticks .now) (a .rows .now) (a .threads .now)
 
 abbrev exit : tie.After-request → State
 exit c = let q = c .request in let buffers = q .last .1 .1 .1 .1 in state (q .result .head) (buffers .0) (buffers .1 .0) (buffers .1 .1 .0) (buffers .1 .1 .1 .0)
@@ -31,10 +34,12 @@ same-length-4 c = search needs
 
 returns : tie.Need-returns
 returns c =
-    let a = c .before .before .before .before .before .before .before .before .before .before .before .before .before .before .before .before .before .before .before .before .before .args in
-    let q = c .before .before .before .before .before .before .before .before .before .before .before .request in
+    let at = c .before .before .before .before .before .before .before .before .before .before .before in
+    let start = begun at in
+    let a = start .args in
+    let q = at .request in
     rw (c .refused .ensures)
-    (request-refused (a .s) (a .seeds .now) (a .p) (entry (c .before .before .before .before .before .before .before .before .before .before .before)) (a .e) ((c .before .before .before .before .before .before .before .before .before .before .before .before .before .before .before .before .before .before .before .before .before) .pre .3) (q .result .code) (q .result .answer) (exit (c .before .before .before .before .before .before .before .before .before .before .before)) (q .ensures)
+    (request-refused (a .s) (a .seeds .now) (a .p) (entry at) (a .e) (start .pre .3) (q .result .code) (q .result .answer) (exit at) (q .ensures)
     (q .result .head) (c .before .if1 .taken))
 
 answer-number-requires : tie.Need-answer-number-requires
@@ -63,11 +68,17 @@ same-length-8 c = search needs
 
 returns-2 : tie.Need-returns-2
 returns-2 c =
-    let a = c .before .before .before .before .before .before .before .before .before .before .before .before .before .before .before .before .before .before .before .before .before .before .before .before .args in
-    let q = c .before .before .before .before .before .before .before .before .before .before .before .before .before .before .request in
+    let opened = c .before .opened-by in
+    let wait = c .before .before .answer-wait in
+    let numbered = c .before .before .before in
+    let number = numbered .answer-number in
+    let at = numbered .before .before .before .before .before .before .before .before .before .before .before in
+    let start = begun at in
+    let a = start .args in
+    let q = at .request in
     rw (c .settle .ensures)
-    (request-settled (a .s) (a .seeds .now) (a .p) (entry (c .before .before .before .before .before .before .before .before .before .before .before .before .before .before)) (a .e) ((c .before .before .before .before .before .before .before .before .before .before .before .before .before .before .before .before .before .before .before .before .before .before .before .before) .pre .3) (q .result .code) (q .result .answer) (exit (c .before .before .before .before .before .before .before .before .before .before .before .before .before .before)) (q .ensures)
-    (q .result .head) (c .before .before .before .answer-number .result) (c .before .before .answer-wait .result) (c .before .opened-by .result) (c .before .before .before .before .if1 .left) (c .before .before .before .answer-number .ensures) (c .before .before .answer-wait .ensures) (c .before .opened-by .ensures .1) (c .before .opened-by .ensures .0))
+    (request-settled (a .s) (a .seeds .now) (a .p) (entry at) (a .e) (start .pre .3) (q .result .code) (q .result .answer) (exit at) (q .ensures)
+    (q .result .head) (number .result) (wait .result) (opened .result) (numbered .before .if1 .left) (number .ensures) (wait .ensures) (opened .ensures .1) (opened .ensures .0))
 
 pub judge-request-spec : {M : Type 1} → statement M
 judge-request-spec =
