@@ -211,7 +211,11 @@ static double time_piece(const struct build *b, struct memory *m, const struct p
     return end - begin;
 }
 
-/* Replays the whole list once on all builds and keeps the shortest time of each piece. */
+/*
+ * Replays the whole list once on all builds and keeps the shortest time of each
+ * piece. In each round a build has another of the memories, since where one lies
+ * can make all calls on it slower.
+ */
 static void replay(size_t round, size_t span, double least[BUILDS][MOST_PIECES])
 {
     uint64_t sums[BUILDS] = {0};
@@ -221,8 +225,9 @@ static void replay(size_t round, size_t span, double least[BUILDS][MOST_PIECES])
     for (size_t first = 0; first < pieces_made; first += span)
         for (size_t k = 0; k < n; k++) {
             size_t b = (k + round + first / span) % n;
+            struct memory *m = &memories[(b + round) % n];
             for (size_t p = first; p < first + span && p < pieces_made; p++) {
-                double t = time_piece(&builds[b], &memories[b], &pieces[p], &sums[b]);
+                double t = time_piece(&builds[b], m, &pieces[p], &sums[b]);
                 if (round == 0 || t < least[b][p])
                     least[b][p] = t;
             }
