@@ -5,6 +5,7 @@
  */
 #include "baseline.h"
 #include "baseline_filter.h"
+#include "baseline_hash.h"
 #include "baseline_history.h"
 
 #include <string.h>

@@ -49,4 +49,9 @@
                                    uint64_t last);                                           \
     int BASE_NAME(prefix, read)(const uint64_t *ticks, size_t h, size_t place, uint64_t last)
 
+/* hash_alone.c: the places of all rows of a list, each row's four in one word, exclusive-or-ed */
+#define BASE_DECLARE_HASH(prefix)                                                            \
+    uint64_t BASE_NAME(prefix, hash)(const uint16_t seeds[THROTTLE_LEAST THROTTLE_SEEDS],    \
+                                     const uint16_t *rows, size_t n)
+
 #endif

@@ -19,6 +19,8 @@ static const struct part parts[] = {
     {"history", run_history},
     {"gaps", run_gaps},
     {"turns", run_turns},
+    {"seeds", run_seeds},
+    {"hashing", run_hashing},
 };
 
 enum { PARTS = sizeof parts / sizeof *parts };

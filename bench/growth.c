@@ -59,9 +59,22 @@ static void run_lengths(void)
     }
 }
 
+/* What the lines of a size show. */
+enum { LINE_LIBRARY, LINE_O3, LINE_NATIVE, LINE_FORMER, LINES };
+
+static double time_of(const struct times *t, size_t line)
+{
+    return line == LINE_LIBRARY  ? t->ns[LIBRARY]
+           : line == LINE_O3     ? best_o3(t)
+           : line == LINE_NATIVE ? best_native(t)
+                                 : t->ns[FORMER];
+}
+
 static void run_sizes(void)
 {
-    static const char *const names[3] = {"library", "gcc -O3", "gcc -O3 -march=native"};
+    static const char *const names[LINES] = {"library", "gcc -O3", "gcc -O3 -march=native",
+                                             "former"};
+    size_t lines = has_former() ? LINES : LINE_FORMER;
     struct times times[SIZES][KINDS];
     measure_shapes(size_shapes, SIZES, times);
     printf("\nGrowth with banks and threads: H 8; nanoseconds a call, best of %d\n\n",
@@ -69,15 +82,11 @@ static void run_sizes(void)
     printf("%5s %7s  %-22s %9s %9s %9s %9s %9s\n", "banks", "threads", "", "row wait", "bank wait",
            "opened", "done", "index");
     for (size_t i = 0; i < SIZES; i++)
-        for (size_t who = 0; who < 3; who++) {
+        for (size_t line = 0; line < lines; line++) {
             printf("%5d %7d  %-22s", (int)size_shapes[i].banks, (int)size_shapes[i].threads,
-                   names[who]);
-            for (size_t k = 0; k < SHOWN; k++) {
-                const struct times *t = &times[i][k];
-                printf(" %9.1f", who == 0   ? t->ns[LIBRARY]
-                                 : who == 1 ? best_o3(t)
-                                            : best_native(t));
-            }
+                   names[line]);
+            for (size_t k = 0; k < SHOWN; k++)
+                printf(" %9.1f", time_of(&times[i][k], line));
             printf("\n");
         }
     printf("\n");

@@ -1,6 +1,7 @@
 /* What the parts of the benchmark share. See harness.h. */
 #define _POSIX_C_SOURCE 199309L
 #include "harness.h"
+#include "seeds.h"
 
 #include <stdio.h>
 #include <stdlib.h>
@@ -11,6 +12,12 @@ BASE_DECLARE(o3_differences);
 BASE_DECLARE(o3_compares);
 BASE_DECLARE(native_differences);
 BASE_DECLARE(native_compares);
+BASE_DECLARE(former);
+/* Null where the program is linked without a former library. */
+#pragma weak former_setup
+#pragma weak former_request
+#pragma weak former_done
+#pragma weak former_index
 
 /* One of the implementations. */
 struct build {
@@ -30,6 +37,7 @@ static const struct build builds[BUILDS] = {
     [O3_COMPARES] = BUILD(o3_compares),
     [NATIVE_DIFFERENCES] = BUILD(native_differences),
     [NATIVE_COMPARES] = BUILD(native_compares),
+    [FORMER] = BUILD(former),
 };
 
 /*
@@ -56,6 +64,7 @@ static struct call calls[MOST_CALLS];
 static size_t calls_made;
 static struct piece pieces[MOST_PIECES];
 static size_t pieces_made;
+static size_t seeding = HOUSE_SEEDS;
 static uint16_t seeds[THROTTLE_SEEDS];
 static uint64_t words[THROTTLE_SETTING_WORDS];
 const uint64_t *setting;
@@ -86,6 +95,22 @@ double nanoseconds(void)
     return (double)t.tv_sec * 1e9 + (double)t.tv_nsec;
 }
 
+int has_former(void)
+{
+    return builds[FORMER].setup != NULL;
+}
+
+/* The number of builds that there are. */
+static size_t present(void)
+{
+    return has_former() ? BUILDS : FORMER;
+}
+
+void take_seeds(size_t which)
+{
+    seeding = which;
+}
+
 /* The memories are set up over a pattern that shows in the cells that nothing may touch. */
 void take_shape(const struct shape *shape)
 {
@@ -101,8 +126,8 @@ void take_shape(const struct shape *shape)
         .threads = shape->threads,
     };
     setting = throttle_words(&s, words);
-    throttle_house_seeds(seeds);
-    for (size_t b = 0; b < BUILDS; b++) {
+    make_seeds(seeding, seeds);
+    for (size_t b = 0; b < present(); b++) {
         memset(&memories[b], 0x5a, sizeof memories[b]);
         if (builds[b].setup(STATE(&memories[b])) != 0)
             fail("the setting is refused");
@@ -124,7 +149,7 @@ static inline void run_call(const struct build *b, struct memory *m, const struc
 
 static void compare_memories(void)
 {
-    for (size_t b = 1; b < BUILDS; b++)
+    for (size_t b = 1; b < present(); b++)
         if (memcmp(&memories[0], &memories[b], sizeof memories[0]) != 0)
             fail("memory differs");
 }
@@ -132,7 +157,7 @@ static void compare_memories(void)
 /* The words of out hold a pattern that shows where one is not written. */
 void call_all(const struct call *c, struct reply *r)
 {
-    for (size_t b = 0; b < BUILDS; b++) {
+    for (size_t b = 0; b < present(); b++) {
         struct reply other;
         memset(&other, 0x5a, sizeof other);
         run_call(&builds[b], &memories[b], c, &other);
@@ -186,22 +211,28 @@ static double time_piece(const struct build *b, struct memory *m, const struct p
     return end - begin;
 }
 
-/* Replays the whole list once on all builds and keeps the shortest time of each piece. */
+/*
+ * Replays the whole list once on all builds and keeps the shortest time of each
+ * piece. In each round a build has another of the memories, since where one lies
+ * can make all calls on it slower.
+ */
 static void replay(size_t round, size_t span, double least[BUILDS][MOST_PIECES])
 {
     uint64_t sums[BUILDS] = {0};
-    for (size_t b = 0; b < BUILDS; b++)
+    size_t n = present();
+    for (size_t b = 0; b < n; b++)
         memories[b] = origin;
     for (size_t first = 0; first < pieces_made; first += span)
-        for (size_t k = 0; k < BUILDS; k++) {
-            size_t b = (k + round + first / span) % BUILDS;
+        for (size_t k = 0; k < n; k++) {
+            size_t b = (k + round + first / span) % n;
+            struct memory *m = &memories[(b + round) % n];
             for (size_t p = first; p < first + span && p < pieces_made; p++) {
-                double t = time_piece(&builds[b], &memories[b], &pieces[p], &sums[b]);
+                double t = time_piece(&builds[b], m, &pieces[p], &sums[b]);
                 if (round == 0 || t < least[b][p])
                     least[b][p] = t;
             }
         }
-    for (size_t b = 1; b < BUILDS; b++)
+    for (size_t b = 1; b < n; b++)
         if (sums[b] != sums[0])
             fail("answers differ in the replay");
     compare_memories();
@@ -218,7 +249,7 @@ void measure(size_t rounds, size_t span, struct times *classes)
         last = pieces[p].class > last ? pieces[p].class : last;
     }
     memset(classes, 0, (last + 1) * sizeof *classes);
-    for (size_t b = 0; b < BUILDS; b++)
+    for (size_t b = 0; b < present(); b++)
         for (size_t p = 0; p < pieces_made; p++)
             classes[pieces[p].class].ns[b] += least[b][p] / (double)counts[pieces[p].class];
 }
@@ -247,16 +278,22 @@ double best_native(const struct times *t)
 
 void print_heading(const char *what)
 {
-    printf("%-29s %9s %20s %20s %8s %8s\n", what, "library", "gcc -O3", "-O3 -march=native",
+    printf("%-29s %9s %20s %20s %8s %8s", what, "library", "gcc -O3", "-O3 -march=native",
            "/ -O3", "/ native");
+    if (has_former())
+        printf(" %9s %8s", "former", "/ former");
+    printf("\n");
 }
 
 void print_times(const char *name, const struct times *t)
 {
     const double *ns = t->ns;
     double o3 = best_o3(t), native = best_native(t);
-    printf("%-29s %9.1f %8.1f %-11s %8.1f %-11s %8.2f %8.2f\n", name, ns[LIBRARY], o3,
+    printf("%-29s %9.1f %8.1f %-11s %8.1f %-11s %8.2f %8.2f", name, ns[LIBRARY], o3,
            ns[O3_DIFFERENCES] <= ns[O3_COMPARES] ? "differences" : "compares", native,
            ns[NATIVE_DIFFERENCES] <= ns[NATIVE_COMPARES] ? "differences" : "compares",
            ns[LIBRARY] / o3, ns[LIBRARY] / native);
+    if (has_former())
+        printf(" %9.1f %8.2f", ns[FORMER], ns[LIBRARY] / ns[FORMER]);
+    printf("\n");
 }

@@ -1,7 +1,8 @@
 /*
- * What the parts of the benchmark share: the library and four builds of the
- * plain C baseline side by side, lists of calls that all of them answer, and
- * the replay of a list with its times.
+ * What the parts of the benchmark share: the library, four builds of the plain
+ * C baseline and, if the program is linked with one, a former library side by
+ * side, lists of calls that all of them answer, and the replay of a list with
+ * its times.
  *
  * A list is made once. Each of its calls is answered by all builds, whose
  * answers and memory are compared. The replay starts from a copied state, the
@@ -14,8 +15,11 @@
 #include "baseline.h"
 #include "throttle.h"
 
-/* The library comes first; then each processor with both forms of the test of the history. */
-enum { LIBRARY, O3_DIFFERENCES, O3_COMPARES, NATIVE_DIFFERENCES, NATIVE_COMPARES, BUILDS };
+/*
+ * The library comes first; then each processor with both forms of the test of
+ * the history; and last the former library, if there is one.
+ */
+enum { LIBRARY, O3_DIFFERENCES, O3_COMPARES, NATIVE_DIFFERENCES, NATIVE_COMPARES, FORMER, BUILDS };
 
 enum { MOST_CALLS = 262144, MOST_PIECES = 256, MOST_CLASSES = 8 };
 
@@ -50,7 +54,7 @@ struct shape {
     uint64_t threads;
 };
 
-/* Nanoseconds a call of each build. */
+/* Nanoseconds a call of each build; 0 for a former library where there is none. */
 struct times {
     double ns[BUILDS];
 };
@@ -61,6 +65,12 @@ extern const uint64_t *setting;
 _Noreturn void fail(const char *what);
 uint64_t next_random(uint64_t *x);
 double nanoseconds(void);
+
+/* Whether there is a former library. */
+int has_former(void);
+
+/* The seeds for the settings that are taken from now on, see seeds.h; at first the house seeds. */
+void take_seeds(size_t which);
 
 /* Takes the setting of this shape, and sets all memories up with it. */
 void take_shape(const struct shape *s);
@@ -86,7 +96,10 @@ void measure(size_t rounds, size_t span, struct times *classes);
 /* Keeps the lesser of the n times of this pass and those of the passes before. */
 void keep_least(size_t pass, struct times *least, const struct times *now, size_t n);
 
-/* The heading of a table and a line of it: the better form of the baseline for each processor. */
+/*
+ * The heading of a table and a line of it: the better form of the baseline for
+ * each processor, and the former library if there is one.
+ */
 void print_heading(const char *what);
 void print_times(const char *name, const struct times *t);
 

@@ -1,14 +1,16 @@
 /*
- * Writes a faithful log to standard output: make_log KIND RECORDS
+ * Writes a faithful log to standard output: make_log KIND SEEDS RECORDS
  *   random         eight threads activate random rows
  *   hammered       four threads activate two rows each by turns, as fast as
  *                  they may, and four activate random rows
  *   hammered-4096  the same with a delay for which H is 4,096
+ * SEEDS is house or other.
  * A controller loop makes requests and dones, baseline.c decides. A request
  * that has to wait is asked again at its wait tick, but after POLL ticks at the
  * latest. The same arguments always give the same log.
  */
 #include "baseline.h"
+#include "seeds.h"
 #include "throttle.h"
 
 #include <inttypes.h>
@@ -93,8 +95,8 @@ static uint64_t next_random(uint64_t *x)
     return *x;
 }
 
-/* The setting and the house seeds; set-up of the model's memory. */
-static void start_model(const struct kind *kind)
+/* The setting and the seeds; set-up of the model's memory. */
+static void start_model(const struct kind *kind, size_t seeding)
 {
     struct throttle_setting s = {
         .w = 256000000,
@@ -108,7 +110,7 @@ static void start_model(const struct kind *kind)
         .threads = THREADS,
     };
     setting = throttle_words(&s, words);
-    throttle_house_seeds(seeds);
+    make_seeds(seeding, seeds);
     if (base_setup(BASE_GIVEN) != 0)
         fail("the setting is refused");
 }
@@ -261,24 +263,33 @@ static void write_log(struct loop *l, uint64_t records, uint64_t answers[ANSWERS
     }
 }
 
+/* The seeds of this name; SEEDINGS if there are none. */
+static size_t find_seeds(const char *name)
+{
+    if (strcmp(name, "house") == 0)
+        return HOUSE_SEEDS;
+    return strcmp(name, "other") == 0 ? OTHER_SEEDS : SEEDINGS;
+}
+
 int main(int argc, char **argv)
 {
     static struct loop l;
     const struct kind *kind = NULL;
-    uint64_t answers[ANSWERS] = {0}, records = argc == 3 ? strtoull(argv[2], NULL, 10) : 0;
-    for (size_t i = 0; argc == 3 && i < sizeof kinds / sizeof *kinds; i++)
+    uint64_t answers[ANSWERS] = {0}, records = argc == 4 ? strtoull(argv[3], NULL, 10) : 0;
+    size_t seeding = argc == 4 ? find_seeds(argv[2]) : SEEDINGS;
+    for (size_t i = 0; argc == 4 && i < sizeof kinds / sizeof *kinds; i++)
         if (strcmp(argv[1], kinds[i].name) == 0)
             kind = &kinds[i];
-    if (kind == NULL || records == 0)
-        fail("usage: make_log random|hammered|hammered-4096 RECORDS");
-    start_model(kind);
+    if (kind == NULL || seeding == SEEDINGS || records == 0)
+        fail("usage: make_log random|hammered|hammered-4096 house|other RECORDS");
+    start_model(kind, seeding);
     start_loop(&l, kind->hammering);
     write_log(&l, records, answers);
     if (fflush(stdout) != 0)
         fail("the log cannot be written");
     fprintf(stderr,
-            "%s: requests opened %" PRIu64 ", bank %" PRIu64 ", rank %" PRIu64 ", row %" PRIu64
-            ", quota %" PRIu64 ", to tick %" PRIu64 "\n",
-            kind->name, answers[0], answers[1], answers[2], answers[3], answers[4], l.now);
+            "%s, %s seeds: requests opened %" PRIu64 ", bank %" PRIu64 ", rank %" PRIu64
+            ", row %" PRIu64 ", quota %" PRIu64 ", to tick %" PRIu64 "\n",
+            kind->name, argv[2], answers[0], answers[1], answers[2], answers[3], answers[4], l.now);
     return 0;
 }

@@ -20,4 +20,10 @@ void run_gaps(void);
 /* An epoch's turn and a set-up. */
 void run_turns(void);
 
+/* Each kind of call under the house seeds and under others. */
+void run_seeds(void);
+
+/* Hashing alone. */
+void run_hashing(void);
+
 #endif
