@@ -1,7 +1,6 @@
 // Block 0 of a log, known to be sound: its setting and seeds, with which the model is set up through the contract of set-up.
 use checker_reading::Next;
 use checker_reading::Reading;
-use house_seeds::difference;
 use tally::Progress;
 use tally::Report;
 ghost use Rattle.rules.specs.Policy.{narrow};
@@ -9,7 +8,7 @@ ghost use Rattle.log_format.specs.Verdict.{judgeStart};
 ghost use Rattle.hash_words.specs.Words.{TableFor};
 ghost use Rattle.checker_reading.specs.Blocks.{readSoFar, JudgedBlock};
 
-// Block 0: set-up with its setting and seeds, and whether they are the house seeds, which no later block asks again.
+// Block 0: set-up with its setting and seeds, which also finds whether they are the house seeds; no later block tests that again.
 pub fn judge_start(
     x: Reading,
     counters: &mut [u16],
@@ -23,9 +22,9 @@ pub fn judge_start(
     let s = log_read::contents::setting(block);
     let seeds = log_read::contents::seeds(block);
     let h = x.head;
-    let table = difference(&seeds) == 0;
     let q = throttle::setup(s, &seeds, h, counters, ticks, rows, threads);
     let code = q.code;
+    let table = q.table;
     let head = q.head;
     let progress = Progress {
         blocks: 1,

@@ -1,6 +1,7 @@
 // The H3 hash of a row: its four places in a counting Bloom filter, by four functions of 16 seeds each.
 // By any seeds: the sixteen of a function are four words of four lanes, 16 bits each, so that the seeds are masked and joined four at a time.
-// By the house seeds: the exclusive or of the words that a table has for the row's two bytes. No branch depends on the row.
+// By the house seeds: the exclusive or of the words that a table has for the row's two bytes. By the seeds no branch depends on the row; the table's
+// match is compiled to a read of constant data.
 use hash_high::high;
 use hash_low::low;
 ghost use mathlib.Core.Path.{_≡_};
@@ -89,7 +90,7 @@ fn seed_places(seeds: &[u16], row: u16) -> [usize; 4]
     ]
 }
 
-// The four places by the house seeds: the words of the high and the low byte, joined lane by lane.
+// The four places by the house seeds: the exclusive or of the words of the high and the low byte, taken apart lane by lane.
 fn table_places(row: u16) -> [usize; 4]
     ensures { λ r. ⌜ r ≡ places house row ⌝ }
 {
@@ -104,7 +105,7 @@ fn table_places(row: u16) -> [usize; 4]
 }
 
 // The four places of a row in a filter that holds these seeds; from the table where `table` says that they are the house seeds.
-// It rules out: the table asked for other seeds, the bytes exchanged, and one function's word taken for another's.
+// It rules out: the table used for other seeds, the bytes exchanged, and one function's word taken for another's.
 pub fn places(table: bool, seeds: &[u16], row: u16) -> [usize; 4]
     requires { ⌜ (seedsInRange (now seeds) ≡ true) × TableFor table (now seeds) ⌝ }
     ensures { λ r. ⌜ (r ≡ places (now (seeds .entry)) row) × Within r ⌝ }

@@ -1,6 +1,5 @@
 // The hashing of many rows, by the seed rule or by the table, for bench/run, which compares the two. No other program needs it.
 use house_seeds::difference;
-ghost use Prim.Native.Nat.{_+_, _*_};
 ghost use mathlib.Core.Bool.{true};
 ghost use mathlib.Core.Path.{_≡_};
 ghost use lib.ListN.{getD};
@@ -19,31 +18,31 @@ fn join(p: [usize; 4]) -> u64
         + 281474976710656 * (p[3] as u64)
 }
 
-// Whether the table is asked: only where the caller wants it and the seeds are the house seeds.
-fn may_ask(table: u32, away: u16) -> bool
-    ensures { λ r. ⌜ (r ≡ true → away ≡ 0) ⌝ }
+// Whether the table is used: only where the caller wants it and the seeds are the house seeds.
+fn by_table(table: u32, differing: u16) -> bool
+    ensures { λ r. ⌜ (r ≡ true → differing ≡ 0) ⌝ }
 {
     if table != 0 {
-        return away == 0;
+        return differing == 0;
     }
     false
 }
 
 // The exclusive or of the hashes of all rows; 0 where the seeds are not 64 numbers up to 1,023. Where table is not 0 and the seeds are the house
-// seeds, the table is asked. The result is the same.
+// seeds, the table is used. The result is the same either way.
 // It rules out: a hash that leaves a row out, or that the table changes.
 #[no_mangle]
 pub extern "C" fn hash_rows(seeds: &[u16], rows: &[u16], table: u32) -> u64
     ensures { λ r. ⌜ r ≡ hashedRows (now (seeds .entry)) (now (rows .entry)) ⌝ }
 {
-    let away = difference(seeds);
-    if 1023 < away {
+    let differing = difference(seeds);
+    if 1023 < differing {
         return 0;
     }
-    let asked = may_ask(table, away);
+    let chosen = by_table(table, differing);
     let mut all: u64 = 0;
     for i in 0..rows.len() {
-        all = all ^ join(hash::places(asked, seeds, rows[i]));
+        all = all ^ join(hash::places(chosen, seeds, rows[i]));
     }
     all
 }

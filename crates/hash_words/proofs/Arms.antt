@@ -8,7 +8,7 @@ use lib.Dec.{T, eqb, eqb→eq}
 pub arm : (rule : ℕ → ℕ) {v k word : ℕ} → v ≡ k → T (eqb word (rule k)) → word ≡ rule v
 arm rule {v} {k} {word} e t = eqb→eq word (rule k) t ∙ ap rule (sym e)
 
--- v is none of the numbers below n, as the last arm knows it
+-- v is none of the numbers below n, as in the last arm
 abbrev pub NoneBelow : ℕ → ℕ → Type 0
 NoneBelow zero v = Unit {0}
 NoneBelow (suc n) v = NoneBelow n v × (v ≡ n → ⊥)

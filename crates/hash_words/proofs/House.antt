@@ -1,4 +1,4 @@
--- The house seeds are accepted.
+-- The house seeds are in range.
 use mathlib.Core.Path.{_≡_, refl}
 use mathlib.Core.Bool.{true}
 use lib.Dec.{T}
@@ -10,5 +10,5 @@ in-range : seedsInRange house ≡ true
 unfolding seedsInRange house
 in-range = refl
 
-pub house-accepted : T (seedsInRange house)
-house-accepted = holds (seedsInRange house) in-range
+pub house-in-range : T (seedsInRange house)
+house-in-range = holds (seedsInRange house) in-range

@@ -2,4 +2,5 @@ pub mod Xor
 pub mod Lanes
 pub mod House
 pub mod Bytes
+pub mod Words
 pub mod Arms

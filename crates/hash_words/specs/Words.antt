@@ -19,6 +19,6 @@ highWords v = fourHashes house (v * 256)
 abbrev pub lowWords : ℕ → ℕ
 lowWords v = fourHashes house v
 
--- the table is asked only "For filters that hold them", the house seeds
+-- the table is used only "For filters that hold them", the house seeds
 abbrev pub TableFor : Bool → List ℕ → Type 0
 TableFor table seeds = table ≡ true → seeds ≡ house

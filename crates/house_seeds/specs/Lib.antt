@@ -1,1 +1,1 @@
-pub mod Away
+pub mod Differing

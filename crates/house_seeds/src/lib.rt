@@ -1,6 +1,6 @@
 // The pass over the seeds: whether they are in range, which refusal 1 asks, and whether they are the house seeds, for which a row's places come from
 // a table (the crates `hash_high` and `hash_low`).
-ghost use Rattle.house_seeds.specs.Away.{Away};
+ghost use Rattle.house_seeds.specs.Differing.{Differing};
 
 // The house seeds, function by function, that of bit 0 first.
 const HOUSE: [u16; 64] = [
@@ -70,19 +70,19 @@ const HOUSE: [u16; 64] = [
     798,
 ];
 
-// How far the seeds are away from the house seeds: every bit in which one of them differs, or all bits where there are not 64. A house seed has ten
+// The bits in which some of the seeds differ from the house seed at their place; all sixteen where there are not 64 seeds. A house seed has ten
 // bits, so a seed that is out of range differs in a higher one.
 // It rules out: a pass that leaves one seed out, one that takes other seeds for these, and one that lets a seed of 1,024 pass.
 pub fn difference(seeds: &[u16]) -> u16
-    ensures { λ r. ⌜ Away r (now (seeds .entry)) ⌝ }
+    ensures { λ r. ⌜ Differing r (now (seeds .entry)) ⌝ }
 {
     if seeds.len() != 64 {
         return 65535;
     }
-    let same = HOUSE;
-    let mut away: u16 = 0;
+    let house = HOUSE;
+    let mut differing: u16 = 0;
     for i in 0..64 {
-        away = away | (seeds[i] ^ same[i]);
+        differing = differing | (seeds[i] ^ house[i]);
     }
-    away
+    differing
 }

@@ -5,7 +5,7 @@ ghost use mathlib.Core.Path.{_≡_};
 ghost use Prim.Native.Nat.{_≤_, _^_};
 ghost use Rattle.rules.specs.Answers.{refusalNumber};
 ghost use Rattle.rules.specs.Setting.{historyLength};
-ghost use Rattle.house_seeds.specs.Away.{Away};
+ghost use Rattle.house_seeds.specs.Differing.{Differing};
 ghost use Rattle.lengths.specs.Lengths.{shortTest, setupTest};
 
 // Whether one of the buffers, given by its length, is too short.
@@ -32,21 +32,21 @@ fn too_short(
     (threads as u64) < s.banks * s.threads * 3
 }
 
-// Refusals 1 to 6 and 16. Of the buffers it takes the lengths, of the seeds how far they are from the house seeds.
+// Refusals 1 to 6 and 16. Of the buffers it takes the lengths, of the seeds the bits in which they differ from the house seeds.
 pub fn setup_refusal(
     m: Limits,
     s: Setting,
-    away: u16,
+    differing: u16,
     seeds: &[u16],
     counters: usize,
     ticks: usize,
     rows: usize,
     threads: usize,
 ) -> u32
-    requires { ⌜ (m .threshold ≤ 2 ^ 20) × Away away (now seeds) ⌝ }
+    requires { ⌜ (m .threshold ≤ 2 ^ 20) × Differing differing (now seeds) ⌝ }
     ensures { λ r. ⌜ r ≡ refusalNumber (setupTest m s (now (seeds .entry)) counters ticks rows threads) ⌝ }
 {
-    let code = setting::refusal(m, s, away, seeds);
+    let code = setting::refusal(m, s, differing, seeds);
     if code != 0 {
         return code;
     }

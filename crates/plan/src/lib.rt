@@ -46,8 +46,8 @@ fn delay_refusal(m: rules::Limits, s: rules::Setting, td: u64) -> u32
     ensures { λ r. ⌜ r ≡ refusalNumber (delayRefusal m s td) ⌝ }
 {
     let seeds = [0u16; 64];
-    let away = difference(&seeds);
-    setting::refusal(m, with_delay(s, td), away, &seeds)
+    let differing = difference(&seeds);
+    setting::refusal(m, with_delay(s, td), differing, &seeds)
 }
 
 fn greater(a: u64, b: u64) -> u64

@@ -6,7 +6,7 @@ ghost use Prim.Native.Nat.{_≤_, _^_};
 ghost use Rattle.rules.specs.Answers.{refusalNumber};
 ghost use Rattle.rules.specs.Setting.{settingOf};
 ghost use Rattle.rules.specs.State.{headOf};
-ghost use Rattle.house_seeds.specs.Away.{Away};
+ghost use Rattle.house_seeds.specs.Differing.{Differing};
 ghost use Rattle.refusal.specs.Tests.{lentTest, callTest, doneTest};
 
 // For callers that need no other test.
@@ -15,11 +15,11 @@ pub use place::flying_refusal;
 pub use place::place_refusal;
 
 // Refusals 1 to 5, 16, 6 and, where the call keeps what the memory holds, 7. The setting and the head are read where the caller lent them. Of
-// counters, rows and thread counters it takes the lengths, of the seeds how far they are from the house seeds.
+// counters, rows and thread counters it takes the lengths, of the seeds the bits in which they differ from the house seeds.
 pub fn lent_refusal(
     m: Limits,
     setting: &[u64; 10],
-    away: u16,
+    differing: u16,
     seeds: &[u16],
     head: &[u64; 22],
     counters: usize,
@@ -28,11 +28,11 @@ pub fn lent_refusal(
     threads: usize,
     keeps: bool,
 ) -> u32
-    requires { ⌜ (m .threshold ≤ 2 ^ 20) × Away away (now seeds) ⌝ }
+    requires { ⌜ (m .threshold ≤ 2 ^ 20) × Differing differing (now seeds) ⌝ }
     ensures { λ r. ⌜ r ≡ refusalNumber (lentTest m (settingOf (now (setting .entry))) (now (seeds .entry)) (headOf (now (head .entry))) counters (now (ticks .entry)) rows threads keeps) ⌝ }
 {
     let s = setting::load(setting);
-    let code = setup_refusal(m, s, away, seeds, counters, ticks.len(), rows, threads);
+    let code = setup_refusal(m, s, differing, seeds, counters, ticks.len(), rows, threads);
     if code != 0 {
         return code;
     }
@@ -50,7 +50,7 @@ pub fn lent_refusal(
 pub fn call_refusal(
     m: Limits,
     setting: &[u64; 10],
-    away: u16,
+    differing: u16,
     seeds: &[u16],
     head: &[u64; 22],
     counters: usize,
@@ -61,13 +61,13 @@ pub fn call_refusal(
     bank: u64,
     thread: u64,
 ) -> u32
-    requires { ⌜ (m .threshold ≤ 2 ^ 20) × Away away (now seeds) ⌝ }
+    requires { ⌜ (m .threshold ≤ 2 ^ 20) × Differing differing (now seeds) ⌝ }
     ensures { λ r. ⌜ r ≡ refusalNumber (callTest m (settingOf (now (setting .entry))) (now (seeds .entry)) (headOf (now (head .entry))) counters (now (ticks .entry)) rows threads tick bank thread) ⌝ }
 {
     let code = lent_refusal(
         m,
         setting,
-        away,
+        differing,
         seeds,
         head,
         counters,
@@ -86,7 +86,7 @@ pub fn call_refusal(
 pub fn done_refusal(
     m: Limits,
     setting: &[u64; 10],
-    away: u16,
+    differing: u16,
     seeds: &[u16],
     head: &[u64; 22],
     counters: usize,
@@ -97,13 +97,13 @@ pub fn done_refusal(
     bank: u64,
     thread: u64,
 ) -> u32
-    requires { ⌜ (m .threshold ≤ 2 ^ 20) × Away away (now seeds) ⌝ }
+    requires { ⌜ (m .threshold ≤ 2 ^ 20) × Differing differing (now seeds) ⌝ }
     ensures { λ r. ⌜ r ≡ refusalNumber (doneTest m (settingOf (now (setting .entry))) (now (seeds .entry)) (headOf (now (head .entry))) counters (now (ticks .entry)) rows (now (threads .entry)) tick bank thread) ⌝ }
 {
     let code = call_refusal(
         m,
         setting,
-        away,
+        differing,
         seeds,
         head,
         counters,

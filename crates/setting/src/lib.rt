@@ -10,19 +10,19 @@ ghost use mathlib.Core.Path.{_≡_};
 ghost use Prim.Native.Nat.{_^_, _≤_};
 ghost use Rattle.rules.specs.Answers.{refusalNumber};
 ghost use Rattle.rules.specs.Setting.{settingRefusal};
-ghost use Rattle.house_seeds.specs.Away.{Away};
+ghost use Rattle.house_seeds.specs.Differing.{Differing};
 pub use setting_bounds::history_length;
 pub use setting_words::load;
 pub use setting_words::narrow_limits;
 pub use setting_words::profile;
 
-// The number of the first of refusals 1 to 5 and 16 that the setting meets, or 0, with these limits. The caller has passed over the seeds: away is
-// how far they are from the house seeds.
-pub fn refusal(m: rules::Limits, s: rules::Setting, away: u16, seeds: &[u16]) -> u32
-    requires { ⌜ (m .threshold ≤ 2 ^ 20) × Away away (now seeds) ⌝ }
+// The number of the first of refusals 1 to 5 and 16 that the setting meets, or 0, with these limits. differing has the bits in
+// which the seeds differ from the house seeds; the seeds themselves are named by the contract only.
+pub fn refusal(m: rules::Limits, s: rules::Setting, differing: u16, seeds: &[u16]) -> u32
+    requires { ⌜ (m .threshold ≤ 2 ^ 20) × Differing differing (now seeds) ⌝ }
     ensures { λ r. ⌜ r ≡ refusalNumber (settingRefusal m s (now (seeds .entry))) ⌝ }
 {
-    if !and(fields_in_range(m, s), away <= 1023) {
+    if !and(fields_in_range(m, s), differing <= 1023) {
         return 1;
     }
     let window = short_window(s);

@@ -6,11 +6,13 @@ use rules::Setting;
 ghost use Rattle.rules.specs.State.{state};
 ghost use Rattle.rules.specs.Policy.{limits01};
 ghost use Rattle.rules.specs.Calls.{setup};
+ghost use Rattle.hash_words.specs.Words.{TableFor};
 ghost use Rattle.sound_told.specs.Told.{Begun};
 
-// What set-up gives: 0 or the number of a refusal, and the head after it.
+// What set-up gives: 0 or the number of a refusal, whether the seeds are the house seeds, and the head after it.
 pub struct Started {
     pub code: u32,
+    pub table: bool,
     pub head: Head,
 }
 
@@ -23,13 +25,14 @@ pub fn setup(
     rows: &mut [u32],
     threads: &mut [u32],
 ) -> Started
-    ensures { λ r. ⌜ Begun s (now (seeds .entry)) (r .code) (state (r .head) (now (counters .exit)) (now (ticks .exit)) (now (rows .exit)) (now (threads .exit))) (setup limits01 s (now (seeds .entry)) (state h (now (counters .entry)) (now (ticks .entry)) (now (rows .entry)) (now (threads .entry)))) ⌝ }
+    ensures { λ r. ⌜ Begun s (now (seeds .entry)) (r .code) (state (r .head) (now (counters .exit)) (now (ticks .exit)) (now (rows .exit)) (now (threads .exit))) (setup limits01 s (now (seeds .entry)) (state h (now (counters .entry)) (now (ticks .entry)) (now (rows .entry)) (now (threads .entry)))) × TableFor (r .table) (now (seeds .entry)) ⌝ }
 {
-    let away = difference(seeds);
+    let differing = difference(seeds);
+    let table = differing == 0;
     let code = setup_refusal(
         setting::narrow_limits(),
         s,
-        away,
+        differing,
         seeds,
         counters.len(),
         ticks.len(),
@@ -37,8 +40,16 @@ pub fn setup(
         threads.len(),
     );
     if code != 0 {
-        return Started { code, head: h };
+        return Started {
+            code,
+            table,
+            head: h,
+        };
     }
     let head = narrow::fresh(s, counters, ticks, rows, threads);
-    Started { code: 0, head }
+    Started {
+        code: 0,
+        table,
+        head,
+    }
 }

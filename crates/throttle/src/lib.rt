@@ -38,11 +38,11 @@ pub extern "C" fn throttle_setup(
 ) -> u32
     ensures { λ r. ⌜ left r [] (now (head .exit)) (now (counters .exit)) (now (ticks .exit)) (now (rows .exit)) (now (threads .exit)) ≡ leaves (setup limits01 (settingOf (now (setting .entry))) (now (seeds .entry)) (found (now (head .entry)) (now (counters .entry)) (now (ticks .entry)) (now (rows .entry)) (now (threads .entry)))) [] (now (head .entry)) ⌝ }
 {
-    let away = difference(seeds);
+    let differing = difference(seeds);
     let code = lent_refusal(
         narrow_limits(),
         setting,
-        away,
+        differing,
         seeds,
         &*head,
         counters.len(),
@@ -79,11 +79,11 @@ pub extern "C" fn throttle_request(
 ) -> u32
     ensures { λ r. ⌜ left r (now (out .exit)) (now (head .exit)) (now (counters .exit)) (now (ticks .exit)) (now (rows .exit)) (now (threads .exit)) ≡ leaves (step narrow (settingOf (now (setting .entry))) (now (seeds .entry)) (found (now (head .entry)) (now (counters .entry)) (now (ticks .entry)) (now (rows .entry)) (now (threads .entry))) (request tick bank thread row)) (now (out .entry)) (now (head .entry)) ⌝ }
 {
-    let away = difference(seeds);
+    let differing = difference(seeds);
     let code = call_refusal(
         narrow_limits(),
         setting,
-        away,
+        differing,
         seeds,
         &*head,
         counters.len(),
@@ -101,7 +101,7 @@ pub extern "C" fn throttle_request(
     let h = load_head(&*head);
     let d = calls::request(
         s,
-        away == 0,
+        differing == 0,
         seeds,
         h,
         head[2 + bank as usize],
@@ -138,11 +138,11 @@ pub extern "C" fn throttle_done(
 ) -> u32
     ensures { λ r. ⌜ left r [] (now (head .exit)) (now (counters .exit)) (now (ticks .exit)) (now (rows .exit)) (now (threads .exit)) ≡ leaves (step narrow (settingOf (now (setting .entry))) (now (seeds .entry)) (found (now (head .entry)) (now (counters .entry)) (now (ticks .entry)) (now (rows .entry)) (now (threads .entry))) (done tick bank thread)) [] (now (head .entry)) ⌝ }
 {
-    let away = difference(seeds);
+    let differing = difference(seeds);
     let code = done_refusal(
         narrow_limits(),
         setting,
-        away,
+        differing,
         seeds,
         &*head,
         counters.len(),
@@ -183,11 +183,11 @@ pub extern "C" fn throttle_index(
 ) -> u32
     ensures { λ r. ⌜ left r (now (out .exit)) (now (head .exit)) (now (counters .exit)) (now (ticks .exit)) (now (rows .exit)) (now (threads .exit)) ≡ leaves (step narrow (settingOf (now (setting .entry))) (now (seeds .entry)) (found (now (head .entry)) (now (counters .entry)) (now (ticks .entry)) (now (rows .entry)) (now (threads .entry))) (index tick bank thread)) (now (out .entry)) (now (head .entry)) ⌝ }
 {
-    let away = difference(seeds);
+    let differing = difference(seeds);
     let refusal = call_refusal(
         narrow_limits(),
         setting,
-        away,
+        differing,
         seeds,
         &*head,
         counters.len(),

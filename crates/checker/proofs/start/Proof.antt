@@ -1,15 +1,16 @@
 -- `start` has read nothing, and its head is the one that set-up leaves.
-use mathlib.Core.Path.{refl, sym, subst}
-use lib.Dec.{T}
+use mathlib.Core.Path.{refl}
+use mathlib.Core.Bool.{false}
 use Rattle.rules.specs.State.{freshHead}
 use Rattle.log_format.specs.Verdict.{unread}
+use Rattle.checker_records.proofs.Steps.{not-both}
 use Rattle.checker.proofs.Logs.{start-ready}
 use Rattle.checker.proofs.start.Statement.{statement}
 use Rattle.checker.proofs.start.Tie as tie
 
 returns : tie.Need-returns
 unfolding unread freshHead
-returns c = (refl, refl, λ counters ticks rows threads. start-ready _ refl, λ k. absurd (subst T (sym k) tt))
+returns c = (refl, refl, λ counters ticks rows threads. start-ready _ refl, λ k. absurd (not-both false k refl))
 
 pub start-spec : {M : Type 1} → statement M
 start-spec = tie.close (tie.spec returns)

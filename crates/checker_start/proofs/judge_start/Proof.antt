@@ -1,5 +1,4 @@
 -- `judge_start` takes setting and seeds from block 0 and sets the model up.
-use borrow.Author.Tests.{eqb-true}
 use Rattle.rules.specs.State.{state}
 use Rattle.checker_reading.specs.Blocks.{readSoFar}
 use Rattle.checker_reading.proofs.Start.{start-judged}
@@ -13,20 +12,14 @@ setting-requires c κs = search needs
 seeds-requires : tie.Need-seeds-requires
 seeds-requires c κs = search needs
 
-slice-aggregate-difference : tie.Need-slice-aggregate-difference
-slice-aggregate-difference c = search needs
-
-difference-requires : tie.Need-difference-requires
-difference-requires c κs = search needs
-
 slice-aggregate-setup : tie.Need-slice-aggregate-setup
 slice-aggregate-setup c = search needs
 
 setup-requires : tie.Need-setup-requires
 setup-requires c κs = search needs
 
-cast-t30 : tie.Need-cast-t30
-cast-t30 c = search needs
+cast-t27 : tie.Need-cast-t27
+cast-t27 c = search needs
 
 same-length : tie.Need-same-length
 same-length c = search needs
@@ -40,12 +33,9 @@ same-length-3 c = search needs
 same-length-4 : tie.Need-same-length-4
 same-length-4 c = search needs
 
--- the way back from the model's set-up: the pass over the seeds; before that they and the setting are read
-abbrev compared : tie.After-setup → tie.After-difference
-compared c = (c .before .before .before .before .before .before)
-
-abbrev read : tie.After-difference → tie.After-seeds
-read c = (c .before .before .before)
+-- the way back from the model's set-up: the seeds and the setting are read
+abbrev read : tie.After-setup → tie.After-seeds
+read c = (c .before .before .before .before .before .before .before)
 
 abbrev begun : tie.After-seeds → tie.Start
 begun c = (c .before .before .before .before .before .before)
@@ -53,16 +43,15 @@ begun c = (c .before .before .before .before .before .before)
 returns : tie.Need-returns
 returns c =
     let at-setup = c .before .before .before .before .before .before .before .before .before in
-    let at-pass = compared at-setup in
-    let at-seeds = read at-pass in
+    let at-seeds = read at-setup in
     let at-setting = at-seeds .before in
     let a = begun at-seeds .args in
     let q = at-setup .setup in
     let buffers = q .last .1 .1 .1 in (
       start-judged (readSoFar (a .x) (a .counters .now) (a .ticks .now) (a .rows .now) (a .threads .now)) (a .block .now) (at-setting .setting .result) (at-seeds .seeds .result) (q .result .code)
           (state (q .result .head) (buffers .0) (buffers .1 .0) (buffers .1 .1 .0) (buffers .1 .1 .1 .0))
-          (at-setting .setting .ensures) (at-seeds .seeds .ensures) (q .ensures),
-      λ e. at-pass .difference .ensures .nowhere (eqb-true _ 0 e),
+          (at-setting .setting .ensures) (at-seeds .seeds .ensures) (q .ensures .0),
+      q .ensures .1,
     )
 
 pub judge-start-spec : {M : Type 1} → statement M
@@ -71,11 +60,9 @@ judge-start-spec =
     (tie.spec
     setting-requires
     seeds-requires
-    slice-aggregate-difference
-    difference-requires
     slice-aggregate-setup
     setup-requires
-    cast-t30
+    cast-t27
     same-length
     same-length-2
     same-length-3

@@ -13,10 +13,10 @@ use Rattle.hash_rows.proofs.hash_rows.Statement.{statement}
 use Rattle.hash_rows.proofs.hash_rows.Tie as tie
 
 abbrev Inv-loop : tie.InvT-loop
-Inv-loop seeds rows table away asked all₀ i₀ n all i = (i ≤ length rows) × (n ≡ length rows) × (all ≡ hashedTo seeds rows i)
+Inv-loop seeds rows table differing chosen all₀ i₀ n all i = (i ≤ length rows) × (n ≡ length rows) × (all ≡ hashedTo seeds rows i)
 
 abbrev μ-loop : tie.MeasureT-loop
-μ-loop seeds rows table away asked all₀ i₀ n all i = length rows - i
+μ-loop seeds rows table differing chosen all₀ i₀ n all i = length rows - i
 
 abbrev begun : tie.Else1 Inv-loop μ-loop → tie.Start Inv-loop μ-loop
 begun c = (c .before .before .before .before)
@@ -31,8 +31,8 @@ difference-requires c κs = search needs
 returns : tie.Need-returns Inv-loop μ-loop
 returns c = none-ranged _ _ (sym (c .before .difference .ensures .ranged) ∙ lt-leb _ _ (c .if1 .taken))
 
-may-ask-requires : tie.Need-may-ask-requires Inv-loop μ-loop
-may-ask-requires c κs = search needs
+by-table-requires : tie.Need-by-table-requires Inv-loop μ-loop
+by-table-requires c κs = search needs
 
 loop-holds : tie.Need-loop-holds Inv-loop μ-loop
 loop-holds c = (omega arith, refl, refl)
@@ -45,9 +45,9 @@ shared-slice-read-places c = omega arith
 
 places-requires : tie.Need-places-requires Inv-loop μ-loop
 places-requires c κs =
-    let asked = c .before .before .before in
-    let here = asked .before in
-    (ok here, λ e. here .before .difference .ensures .nowhere (asked .may-ask .ensures e))
+    let choice = c .before .before .before in
+    let here = choice .before in
+    (ok here, λ e. here .before .difference .ensures .none (choice .by-table .ensures e))
 
 join-requires : tie.Need-join-requires Inv-loop μ-loop
 join-requires c κs = c .places .ensures .1
@@ -79,7 +79,7 @@ hash-rows-spec =
     μ-loop
     difference-requires
     returns
-    may-ask-requires
+    by-table-requires
     loop-holds
     mul-places
     shared-slice-read-places

@@ -9,10 +9,10 @@ use Rattle.house_seeds.proofs.difference.Statement.{statement}
 use Rattle.house_seeds.proofs.difference.Tie as tie
 
 abbrev Inv-loop : tie.InvT-loop
-Inv-loop seeds same away₀ i₀ away i = (i ≤ 64) × Passed seeds i away
+Inv-loop seeds array differing₀ i₀ differing i = (i ≤ 64) × Passed seeds i differing
 
 abbrev μ-loop : tie.MeasureT-loop
-μ-loop seeds same away₀ i₀ away i = 64 - i
+μ-loop seeds array differing₀ i₀ differing i = 64 - i
 
 returns : tie.Need-returns Inv-loop μ-loop
 returns c = other-length (c .before .args .seeds .now) (c .if1 .taken)
@@ -20,17 +20,17 @@ returns c = other-length (c .before .args .seeds .now) (c .if1 .taken)
 loop-holds : tie.Need-loop-holds Inv-loop μ-loop
 loop-holds c = (omega arith, passed-none _)
 
-mul-away : tie.Need-mul-away Inv-loop μ-loop
-mul-away c = search needs
+mul-differing : tie.Need-mul-differing Inv-loop μ-loop
+mul-differing c = search needs
 
-shared-slice-read-away : tie.Need-shared-slice-read-away Inv-loop μ-loop
-shared-slice-read-away c = omega arith
+shared-slice-read-differing : tie.Need-shared-slice-read-differing Inv-loop μ-loop
+shared-slice-read-differing c = omega arith
 
-mul-away-2 : tie.Need-mul-away-2 Inv-loop μ-loop
-mul-away-2 c = search needs
+mul-differing-2 : tie.Need-mul-differing-2 Inv-loop μ-loop
+mul-differing-2 c = search needs
 
-array-read-away : tie.Need-array-read-away Inv-loop μ-loop
-array-read-away c = search needs
+array-read-differing : tie.Need-array-read-differing Inv-loop μ-loop
+array-read-differing c = search needs
 
 add-i : tie.Need-add-i Inv-loop μ-loop
 add-i c = search needs
@@ -42,13 +42,13 @@ loop-again : tie.Need-loop-again Inv-loop μ-loop
 unfolding house
 loop-again c =
     let l = c .before .before .loop in
-    (omega arith, passed-more _ (l .i) (l .away) (l .inv .1))
+    (omega arith, passed-more _ (l .i) (l .differing) (l .inv .1))
 
 returns-2 : tie.Need-returns-2 Inv-loop μ-loop
 returns-2 c =
     let l = c .before .loop in
     let all : l .i ≡ 64 = omega arith in
-    passed-all _ (l .away) (c .before .before .if1 .left) (rw all at (l .inv .1))
+    passed-all _ (l .differing) (c .before .before .if1 .left) (rw all at (l .inv .1))
 
 pub difference-spec : {M : Type 1} → statement M
 difference-spec =
@@ -58,10 +58,10 @@ difference-spec =
     μ-loop
     returns
     loop-holds
-    mul-away
-    shared-slice-read-away
-    mul-away-2
-    array-read-away
+    mul-differing
+    shared-slice-read-differing
+    mul-differing-2
+    array-read-differing
     add-i
     loop-less
     loop-again

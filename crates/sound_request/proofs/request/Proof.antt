@@ -85,8 +85,9 @@ returns-2 c =
     let start = begun here in
     let a = start .args in
     let q = c .before .before .before .before .before .before .before .before .before .request in
+    let buffers = q .last .1 .1 .1 .1 .1 in
     told-taken (a .s) (callRefusal limits01 (a .s) (a .seeds .now) (entry start) (a .tick) (a .bank) (a .thread)) (entry start) (performs start) (q .result .answer)
-    (state (q .result .head) (q .last .1 .1 .1 .1 .1 .0) (q .last .1 .1 .1 .1 .1 .1 .0) (q .last .1 .1 .1 .1 .1 .1 .1 .0) (q .last .1 .1 .1 .1 .1 .1 .1 .1 .0))
+    (state (q .result .head) (buffers .0) (buffers .1 .0) (buffers .1 .1 .0) (buffers .1 .1 .1 .0))
     (ap refusalNumber (free here)) (q .ensures .0) (q .ensures .1)
 
 pub request-spec : {M : Type 1} → statement M

@@ -1,13 +1,16 @@
 -- `setup` is refused as the rules say, or clears the used parts.
 use mathlib.Core.Path.{_≡_, sym, ap, _∙_}
 use native.Mathlib.Omega.{arith}
+use lib.Dec.{eqb}
 use lib.ListN.{length}
+use borrow.Author.Tests.{eqb-true}
 use Rattle.rules.specs.Answers.{none, refusalNumber}
 use Rattle.rules.specs.State.{State, state, fresh}
 use Rattle.rules.specs.Policy.{limits01}
 use Rattle.rules.specs.Tested.{SetUp}
 use Rattle.rules.specs.Calls.{setupRefusal}
 use Rattle.rules.proofs.Accept.{set-up, number-none}
+use Rattle.hash_words.specs.Words.{TableFor}
 use Rattle.refusal.specs.Tests.{setupTest}
 use Rattle.refusal.proofs.Refusals.{setup-test}
 use Rattle.calls.proofs.Requests.{narrow-widest, bounds}
@@ -25,6 +28,14 @@ asked c = (c .before .before .before .before .before .before .before .before)
 
 abbrev begun : tie.Else1 → tie.Start
 begun c = asked (c .before)
+
+-- the pass over the seeds, from where the code is known
+abbrev compared : tie.After-setup-refusal → tie.After-difference
+compared c = (c .before .before)
+
+-- what it found of the house seeds
+house-only : (c : tie.After-setup-refusal) → TableFor (eqb (compared c .difference .result) 0) (asked c .args .seeds .now)
+house-only c e = compared c .difference .ensures .none (eqb-true _ 0 e)
 
 -- the code is the number of the rules' refusal
 code-is : (c : tie.After-setup-refusal) → let start = asked c in c .setup-refusal .result ≡ refusalNumber (setupRefusal limits01 (start .args .s) (start .args .seeds .now) (entry start))
@@ -55,7 +66,7 @@ setup-refusal-requires c κs = (rw (c .narrow-limits .ensures) (omega arith), c 
 returns : tie.Need-returns
 returns c =
     let start = asked (c .before) in
-    begun-refused (start .args .s) (start .args .seeds .now) (entry start) (c .before .setup-refusal .result) (code-is (c .before)) (c .if1 .taken)
+    (begun-refused (start .args .s) (start .args .seeds .now) (entry start) (c .before .setup-refusal .result) (code-is (c .before)) (c .if1 .taken), house-only (c .before))
 
 fresh-requires : tie.Need-fresh-requires
 fresh-requires c κs =
@@ -81,7 +92,7 @@ returns-2 c =
     let start = begun here in
     let at-fresh = c .before .before .before .before .before .before .before .before in
     let q = at-fresh .fresh .last in
-    begun-taken (start .args .s) (start .args .seeds .now) (entry start) (state (at-fresh .fresh .result) (q .1 .0) (q .1 .1 .0) (q .1 .1 .1 .0) (q .1 .1 .1 .1 .0)) (taken here) (at-fresh .fresh .ensures)
+    (begun-taken (start .args .s) (start .args .seeds .now) (entry start) (state (at-fresh .fresh .result) (q .1 .0) (q .1 .1 .0) (q .1 .1 .1 .0) (q .1 .1 .1 .1 .0)) (taken here) (at-fresh .fresh .ensures), house-only (here .before))
 
 pub setup-spec : {M : Type 1} → statement M
 setup-spec =

@@ -78,7 +78,7 @@ after c = let q = c .request in let buffers = q .last .1 .1 .1 .1 .1 in state (q
 left-by : (c : tie.After-request) → outcome (answered (c .request .result .answer)) (after c) ≡ performs (begun (passed (headed (c .before))))
 left-by c =
     let at = headed (c .before) in
-    let a = begun (passed (headed (c .before))) .args in
+    let a = begun (passed at) .args in
     c .request .ensures .0
     ∙ ap₂ (λ σ h. requested narrow σ (λ f. places (a .seeds .now) (a .row)) (turned σ (state h (a .counters .now) (a .ticks .now) (a .rows .now) (a .threads .now)) (a .tick)) (a .bank) (a .thread) (a .row))
     (loaded at .load .ensures) (at .load-head .ensures)
@@ -127,7 +127,7 @@ request-requires c κs =
     let refused : Setting → Head → Refusal = λ σ h. callRefusal limits01 σ (a .seeds .now) (state h (a .counters .now) (a .ticks .now) (a .rows .now) (a .threads .now)) (a .tick) (a .bank) (a .thread) in (
       ap₂ refused (loaded at .load .ensures) (at .load-head .ensures) ∙ free here,
       bank-word (a .head .now) (a .bank) (in-head here) ∙ ap (λ h. getD (h .bank) (a .bank) 0) (sym (at .load-head .ensures)),
-      λ e. compared here .difference .ensures .nowhere (eqb-true _ 0 e),
+      λ e. compared here .difference .ensures .none (eqb-true _ 0 e),
     )
 
 store-answered-requires : tie.Need-store-answered-requires
@@ -157,11 +157,12 @@ returns-2 : tie.Need-returns-2
 returns-2 c =
     let told = (c .before) in
     let at = (told .before .before .before .before .before .before .before .before .before .before .before) in
-    let start = begun (passed (headed (at .before))) in
+    let here = passed (headed (at .before)) in
+    let start = begun here in
     let a = start .args in
     rw (told .store-answered .ensures, c .out-words .ensures)
     (left-request (s start) (a .seeds .now) (a .head .now) (a .counters .now) (a .ticks .now) (a .rows .now) (a .threads .now)
-    (a .tick) (a .bank) (a .thread) (a .row) (a .out .now) (ap refusalNumber (free (passed (headed (at .before))))) (at .request .result .answer) (after at) (left-by at))
+    (a .tick) (a .bank) (a .thread) (a .row) (a .out .now) (ap refusalNumber (free here)) (at .request .result .answer) (after at) (left-by at))
 
 pub throttle-request-spec : {M : Type 1} → statement M
 throttle-request-spec =
