@@ -1,7 +1,8 @@
 /*
  * Every archive of the project in one program: the planner, the throttle and
  * the log writer are called with one setting, under both profiles, and what they
- * give is compared with what the specification says of it. The argument is the
+ * give is compared with what the specification says of it; and the hashing of
+ * rows, which bench/run alone uses, by both of its ways. The argument is the
  * path of samples/sample.log, whose first block is what the log writer must
  * write under the large profile.
  */
@@ -107,6 +108,37 @@ static void check_log(const uint8_t sample[THROTTLE_LOG_BLOCK])
     }
 }
 
+/* The benchmark's archive has no header: the exclusive or of the hashes of all rows, function f's 16 f bits up. */
+uint64_t hash_rows(const uint16_t *seeds, size_t seeds_length, const uint16_t *rows, size_t rows_length, uint32_t table);
+
+/* The seed rule, with the row's bits one by one. */
+static uint64_t hashes(uint16_t row)
+{
+    uint64_t word = 0;
+    for (unsigned f = 0; f < 4; f++)
+        for (unsigned bit = 0; bit < 16; bit++)
+            if (row >> bit & 1)
+                word ^= (uint64_t)seeds[16 * f + bit] << 16 * f;
+    return word;
+}
+
+/* Rows one by one and together, by the seed rule and by the table; seeds out of range give 0. */
+static void check_hashes(void)
+{
+    uint64_t all = 0;
+    uint16_t rows[300];
+    for (unsigned k = 0; k < 300; k++) {
+        rows[k] = (uint16_t)(k * 40503u + 1);
+        for (uint32_t table = 0; table < 2; table++)
+            check(hash_rows(seeds, THROTTLE_SEEDS, &rows[k], 1, table) == hashes(rows[k]), "hash_rows differs from the seed rule");
+        all ^= hashes(rows[k]);
+    }
+    for (uint32_t table = 0; table < 2; table++) {
+        check(hash_rows(seeds, THROTTLE_SEEDS, rows, 300, table) == all, "hash_rows leaves out a row");
+        check(hash_rows(seeds, THROTTLE_SEEDS - 1, rows, 1, table) == 0, "hash_rows takes 63 seeds");
+    }
+}
+
 int main(int count, char **arguments)
 {
     uint8_t sample[THROTTLE_LOG_BLOCK] = {0};
@@ -116,5 +148,6 @@ int main(int count, char **arguments)
     check_throttle(THROTTLE_PROFILE_LARGE);
     check_throttle(THROTTLE_PROFILE_SMALL);
     check_log(sample);
+    check_hashes();
     return failed;
 }
