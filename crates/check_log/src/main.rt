@@ -11,9 +11,8 @@ ghost use mathlib.Core.Path.{_≡_};
 ghost use mathlib.Core.List.{List};
 ghost use Rattle.rules.specs.Policy.{narrow};
 ghost use Rattle.log_format.specs.Verdict.{verdict};
-ghost use Rattle.hash_words.specs.Words.{TableFor};
 ghost use Rattle.judge.specs.Follow.{reportOf};
-ghost use Rattle.checker_reading.specs.Blocks.{readSoFar, Ready, JudgedBlock};
+ghost use Rattle.checker_reading.specs.Blocks.{readSoFar, Carried, Ready, JudgedBlock};
 ghost use Rattle.report.specs.Text.{textOf};
 ghost use Rattle.check_log.specs.Fills.{judgeFilled};
 
@@ -28,8 +27,8 @@ fn judge_filled(
     threads: &mut [u32],
     block: &[u8; 512],
 ) -> Next
-    requires { ⌜ Ready (readSoFar x (now counters) (now ticks) (now rows) (now threads)) × TableFor (x .table) (x .seeds) ⌝ }
-    ensures { λ r. ⌜ JudgedBlock (x .progress .blocks) (r .over) (r .report) (readSoFar (r .reading) (now (counters .exit)) (now (ticks .exit)) (now (rows .exit)) (now (threads .exit))) (judgeFilled filled (readSoFar x (now (counters .entry)) (now (ticks .entry)) (now (rows .entry)) (now (threads .entry))) (now (block .entry))) × TableFor (r .reading .table) (r .reading .seeds) ⌝ }
+    requires { ⌜ Ready (readSoFar x (now counters) (now ticks) (now rows) (now threads)) × Carried x ⌝ }
+    ensures { λ r. ⌜ JudgedBlock (x .progress .blocks) (r .over) (r .report) (readSoFar (r .reading) (now (counters .exit)) (now (ticks .exit)) (now (rows .exit)) (now (threads .exit))) (judgeFilled filled (readSoFar x (now (counters .entry)) (now (ticks .entry)) (now (rows .entry)) (now (threads .entry))) (now (block .entry))) × Carried (r .reading) ⌝ }
 {
     let p = x.progress;
     match filled {

@@ -14,14 +14,13 @@ ghost use Rattle.rules.specs.State.{freshHead};
 ghost use Rattle.rules.specs.Policy.{limits01, narrow};
 ghost use Rattle.log_format.specs.Bytes.{blockAt};
 ghost use Rattle.log_format.specs.Verdict.{ended, unread, verdict};
-ghost use Rattle.hash_words.specs.Words.{TableFor};
 ghost use Rattle.judge.specs.Follow.{progressOf, reportOf};
-ghost use Rattle.checker_reading.specs.Blocks.{readSoFar, Ready};
+ghost use Rattle.checker_reading.specs.Blocks.{readSoFar, Carried, Ready};
 
 // Before the first block. The buffers may hold anything, since block 0 sets the model up in them; 32,768 counters, 4,096 ticks and rows and
 // 1,536 thread counters are enough for every setting. The setting and the seeds are not looked at.
 pub fn start() -> Reading
-    ensures { λ r. ⌜ (progressOf (r .progress) ≡ (unread limits01) .progress) × (r .head ≡ freshHead) × ((counters : List ℕ) (ticks : List ℕ) (rows : List ℕ) (threads : List ℕ) → Ready (readSoFar r counters ticks rows threads)) × TableFor (r .table) (r .seeds) ⌝ }
+    ensures { λ r. ⌜ (progressOf (r .progress) ≡ (unread limits01) .progress) × (r .head ≡ freshHead) × ((counters : List ℕ) (ticks : List ℕ) (rows : List ℕ) (threads : List ℕ) → Ready (readSoFar r counters ticks rows threads)) × Carried r ⌝ }
 {
     let progress = Progress {
         blocks: 0,

@@ -7,8 +7,7 @@ use checker_start::judge_start;
 use tally::Report;
 ghost use Rattle.rules.specs.Policy.{narrow};
 ghost use Rattle.log_format.specs.Verdict.{judgeBlock};
-ghost use Rattle.hash_words.specs.Words.{TableFor};
-ghost use Rattle.checker_reading.specs.Blocks.{readSoFar, Ready, JudgedBlock};
+ghost use Rattle.checker_reading.specs.Blocks.{readSoFar, Carried, Ready, JudgedBlock};
 
 // Any block of a log: its setting or records are judged only where the whole block is sound.
 pub fn judge_block(
@@ -19,8 +18,8 @@ pub fn judge_block(
     threads: &mut [u32],
     block: &[u8; 512],
 ) -> Next
-    requires { ⌜ Ready (readSoFar x (now counters) (now ticks) (now rows) (now threads)) × TableFor (x .table) (x .seeds) ⌝ }
-    ensures { λ r. ⌜ JudgedBlock (x .progress .blocks) (r .over) (r .report) (readSoFar (r .reading) (now (counters .exit)) (now (ticks .exit)) (now (rows .exit)) (now (threads .exit))) (judgeBlock narrow (readSoFar x (now (counters .entry)) (now (ticks .entry)) (now (rows .entry)) (now (threads .entry))) (now (block .entry))) × TableFor (r .reading .table) (r .reading .seeds) ⌝ }
+    requires { ⌜ Ready (readSoFar x (now counters) (now ticks) (now rows) (now threads)) × Carried x ⌝ }
+    ensures { λ r. ⌜ JudgedBlock (x .progress .blocks) (r .over) (r .report) (readSoFar (r .reading) (now (counters .exit)) (now (ticks .exit)) (now (rows .exit)) (now (threads .exit))) (judgeBlock narrow (readSoFar x (now (counters .entry)) (now (ticks .entry)) (now (rows .entry)) (now (threads .entry))) (now (block .entry))) × Carried (r .reading) ⌝ }
 {
     let p = x.progress;
     let code = log_read::block::refusal(block, p.blocks, p.last);

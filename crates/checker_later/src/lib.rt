@@ -6,8 +6,7 @@ ghost use Prim.Native.Nat.{_^_, _≤_, _<_};
 ghost use Rattle.rules.specs.Policy.{narrow};
 ghost use Rattle.log_format.specs.Contents.{countIn};
 ghost use Rattle.log_format.specs.Verdict.{judgeLater};
-ghost use Rattle.hash_words.specs.Words.{TableFor};
-ghost use Rattle.checker_reading.specs.Blocks.{readSoFar, Ready, JudgedBlock};
+ghost use Rattle.checker_reading.specs.Blocks.{readSoFar, Carried, Ready, JudgedBlock};
 
 // A later block: its records, none of which is counted yet.
 pub fn judge_later(
@@ -18,8 +17,8 @@ pub fn judge_later(
     threads: &mut [u32],
     block: &[u8; 512],
 ) -> Next
-    requires { ⌜ Ready (readSoFar x (now counters) (now ticks) (now rows) (now threads)) × (1 ≤ x .progress .blocks) × (x .progress .blocks < 2 ^ 32) × (countIn (now block) ≤ 20) × TableFor (x .table) (x .seeds) ⌝ }
-    ensures { λ r. ⌜ JudgedBlock (x .progress .blocks) (r .over) (r .report) (readSoFar (r .reading) (now (counters .exit)) (now (ticks .exit)) (now (rows .exit)) (now (threads .exit))) (judgeLater narrow (readSoFar x (now (counters .entry)) (now (ticks .entry)) (now (rows .entry)) (now (threads .entry))) (now (block .entry))) × TableFor (r .reading .table) (r .reading .seeds) ⌝ }
+    requires { ⌜ Ready (readSoFar x (now counters) (now ticks) (now rows) (now threads)) × (1 ≤ x .progress .blocks) × (x .progress .blocks < 2 ^ 32) × (countIn (now block) ≤ 20) × Carried x ⌝ }
+    ensures { λ r. ⌜ JudgedBlock (x .progress .blocks) (r .over) (r .report) (readSoFar (r .reading) (now (counters .exit)) (now (ticks .exit)) (now (rows .exit)) (now (threads .exit))) (judgeLater narrow (readSoFar x (now (counters .entry)) (now (ticks .entry)) (now (rows .entry)) (now (threads .entry))) (now (block .entry))) × Carried (r .reading) ⌝ }
 {
     let p = x.progress;
     let setting = x.setting;

@@ -8,6 +8,7 @@ use Rattle.rules.specs.Setting.{settingRefusal}
 use Rattle.rules.specs.Policy.{limits01}
 use Rattle.rules.specs.Tested.{Sound}
 use Rattle.rules.specs.State.{state}
+use Rattle.hash_words.specs.Words.{TableFor}
 use Rattle.log_format.specs.Verdict.{Running, Step}
 use Rattle.tally.specs.declared.Report.{Report}
 use Rattle.checker_reading.specs.declared.Reading.{Reading}
@@ -16,6 +17,10 @@ use Rattle.judge.specs.Follow.{running, Follows}
 -- a log that is read so far, with the four buffers of its model
 abbrev pub readSoFar : Reading → List ℕ → List ℕ → List ℕ → List ℕ → Running
 readSoFar x counters ticks rows threads = running (x .progress) (x .setting) (x .seeds) (state (x .head) counters ticks rows threads)
+
+-- what is carried of block 0's seeds: the table is used only if they are the house seeds
+abbrev pub Carried : Reading → Type 0
+Carried x = TableFor (x .table) (x .seeds)
 
 -- what the next block can count on: after block 0 the setting is accepted and the state passes the tests of 6 and 7; before it the memory may
 -- be any. A block has at most 20 records, and a number of 32 bits.

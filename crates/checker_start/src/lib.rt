@@ -5,8 +5,7 @@ use tally::Progress;
 use tally::Report;
 ghost use Rattle.rules.specs.Policy.{narrow};
 ghost use Rattle.log_format.specs.Verdict.{judgeStart};
-ghost use Rattle.hash_words.specs.Words.{TableFor};
-ghost use Rattle.checker_reading.specs.Blocks.{readSoFar, JudgedBlock};
+ghost use Rattle.checker_reading.specs.Blocks.{readSoFar, Carried, JudgedBlock};
 
 // Block 0: set-up with its setting and seeds, which also finds whether they are the house seeds; no later block tests that again.
 pub fn judge_start(
@@ -17,7 +16,7 @@ pub fn judge_start(
     threads: &mut [u32],
     block: &[u8; 512],
 ) -> Next
-    ensures { λ r. ⌜ JudgedBlock 0 (r .over) (r .report) (readSoFar (r .reading) (now (counters .exit)) (now (ticks .exit)) (now (rows .exit)) (now (threads .exit))) (judgeStart narrow (readSoFar x (now (counters .entry)) (now (ticks .entry)) (now (rows .entry)) (now (threads .entry))) (now (block .entry))) × TableFor (r .reading .table) (r .reading .seeds) ⌝ }
+    ensures { λ r. ⌜ JudgedBlock 0 (r .over) (r .report) (readSoFar (r .reading) (now (counters .exit)) (now (ticks .exit)) (now (rows .exit)) (now (threads .exit))) (judgeStart narrow (readSoFar x (now (counters .entry)) (now (ticks .entry)) (now (rows .entry)) (now (threads .entry))) (now (block .entry))) × Carried (r .reading) ⌝ }
 {
     let s = log_read::contents::setting(block);
     let seeds = log_read::contents::seeds(block);

@@ -3,9 +3,8 @@ use Prim.Native.Nat.{_-_, _^_}
 use mathlib.Core.Path.{_≡_}
 use native.Mathlib.Omega.{arith}
 use lib.ListN.{length}
-use Rattle.hash_words.specs.Words.{TableFor}
 use Rattle.log_format.specs.Verdict.{Running, memory}
-use Rattle.checker_reading.specs.Blocks.{readSoFar, Ready}
+use Rattle.checker_reading.specs.Blocks.{readSoFar, Carried, Ready}
 use Rattle.checker.proofs.Logs.{start-memory}
 use Rattle.check_log.proofs.Fills.{SoFar, none-yet, goes-on, is-over}
 use borrow.Author.Needs.{needs}
@@ -23,7 +22,7 @@ Inv-loop block₀ counters₀ ticks₀ rows₀ threads₀ x₀ block counters ti
     × (1536 ≡ length threads)
     × Ready (readSoFar x counters ticks rows threads)
     × SoFar (readSoFar x counters ticks rows threads)
-    × TableFor (x .table) (x .seeds)
+    × Carried x
 
 abbrev μ-loop : tie.MeasureT-loop
 μ-loop block₀ counters₀ ticks₀ rows₀ threads₀ x₀ block counters ticks rows threads x = 2 ^ 32 - x .progress .blocks

@@ -5,10 +5,9 @@ use mathlib.Core.Bool.{Bool}
 use native.Mathlib.Omega.{arith}
 use lib.Dec.{eqb}
 use lib.ListN.{length}
-use Rattle.hash_words.specs.Words.{TableFor}
 use Rattle.log_format.specs.Verdict.{Running, memory}
 use Rattle.judge.specs.Follow.{reportOf}
-use Rattle.checker_reading.specs.Blocks.{readSoFar}
+use Rattle.checker_reading.specs.Blocks.{readSoFar, Carried}
 use Rattle.checker.proofs.Logs.{start-memory, Through, through-none, through-more, through-over, through-all, of-bytes}
 use borrow.Author.Needs.{needs}
 use Rattle.checker.proofs.judge_log.Statement.{statement}
@@ -22,7 +21,7 @@ Inv-loop bytes counters₀ ticks₀ rows₀ threads₀ n x₀ b₀ counters tick
     × (4096 ≡ length rows)
     × (1536 ≡ length threads)
     × Through bytes n (eqb (length bytes % 512) 0) b (readSoFar x counters ticks rows threads)
-    × TableFor (x .table) (x .seeds)
+    × Carried x
 
 abbrev μ-loop : tie.MeasureT-loop
 μ-loop bytes counters₀ ticks₀ rows₀ threads₀ n x₀ b₀ counters ticks rows threads x b = n - b
