@@ -15,6 +15,7 @@ pub use setting_bounds::history_length;
 pub use setting_words::load;
 pub use setting_words::narrow_limits;
 pub use setting_words::profile;
+pub use setting_words::wide_limits;
 
 // The number of the first of refusals 1 to 5 and 16 that the setting meets, or 0, with these limits. differing has the bits in
 // which the seeds differ from the house seeds; the seeds themselves are named by the contract only.

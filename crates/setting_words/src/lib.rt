@@ -1,7 +1,7 @@
 // What a setting is to the calls: the struct that its ten words hold, and the limits that it is tested with.
 ghost use mathlib.Core.Path.{_≡_};
 ghost use Rattle.rules.specs.Setting.{settingOf, known, profileOf};
-ghost use Rattle.rules.specs.Policy.{limits01};
+ghost use Rattle.rules.specs.Policy.{limits01, limits02};
 
 // The setting that the ten words hold: nine in the order of document 01's table, and the profile mark.
 pub fn load(words: &[u64; 10]) -> rules::Setting
@@ -21,13 +21,23 @@ pub fn load(words: &[u64; 10]) -> rules::Setting
     }
 }
 
-// The limits of the calls with 16-bit counters: N to 32,768, H to 4,096. They stand here and nowhere else in the code.
+// The limits of the calls with 16-bit counters: N to 32,768, H to 4,096. The limits of both widths stand here and nowhere else in the code.
 pub fn narrow_limits() -> rules::Limits
     ensures { λ r. ⌜ r ≡ limits01 ⌝ }
 {
     rules::Limits {
         threshold: 32768,
         history: 4096,
+    }
+}
+
+// The limits of the calls with 32-bit counters: N to 2^20, H to 32,768.
+pub fn wide_limits() -> rules::Limits
+    ensures { λ r. ⌜ r ≡ limits02 ⌝ }
+{
+    rules::Limits {
+        threshold: 1048576,
+        history: 32768,
     }
 }
 
