@@ -1,30 +1,52 @@
-// Request, done and index on a state with 16-bit filters that passed the tests of refusals 1 to 9 and 16. Each leaves a state that passes the tests
-// of 6 and 7, so that a caller that owns its memory tests bank, thread and tick only.
+// A request on a state with 16-bit filters that passed the tests of refusals 1 to 9 and 16. It leaves a state that passes the tests of 6 and 7, so that
+// a caller that owns its memory tests bank, thread and tick only.
 use answers::answer;
 use answers::openings_left;
 use answers::opens;
-use decision::decide;
+use filter::bank_estimate;
+use filter_count::count;
+use filterless::settle;
 use head::Head;
-use narrow::activate;
-use narrow::look;
-use narrow::turn;
 use rules::Answer;
 use rules::Setting;
 ghost use mathlib.Core.Path.{_≡_};
-ghost use Prim.Native.Nat.{_≤_, _<_};
+ghost use Prim.Native.Nat.{_-_, _*_, _%_, _^_, _≤_, _<_};
 ghost use lib.ListN.{length, getD};
-ghost use Rattle.head.specs.Head.{movedHead};
 ghost use Rattle.rules.specs.Answers.{none};
-ghost use Rattle.rules.specs.Setting.{indexScale};
-ghost use Rattle.rules.specs.State.{countersUsed, threadsUsed, threadCell, state};
-ghost use Rattle.rules.specs.Clock.{epoch, activeFilter, turnedCounters, turnedThreads, turned};
+ghost use Rattle.rules.specs.State.{state};
+ghost use Rattle.rules.specs.Clock.{turnedCounters, turned};
 ghost use Rattle.rules.specs.Hash.{places};
-ghost use Rattle.rules.specs.Quota.{indexCounter};
+ghost use Rattle.rules.specs.Filter.{Within, two, estimate};
 ghost use Rattle.rules.specs.Policy.{limits01, narrow};
 ghost use Rattle.rules.specs.Tested.{Sound};
-ghost use Rattle.rules.specs.Calls.{answered, callRefusal, outcome, requested, oneLess};
-ghost use Rattle.state.specs.Ready.{Bounds};
+ghost use Rattle.rules.specs.Calls.{answered, callRefusal, outcome, requested};
 ghost use Rattle.hash_words.specs.Words.{TableFor};
+
+// The estimates of a row in the active and in the other filter.
+pub struct Estimates {
+    pub active: u64,
+    pub other: u64,
+}
+
+// Turns the filters from one epoch to another, and reads the estimates of a row with these places in filter 0 and filter 1 then.
+fn look(
+    counters: &mut [u16],
+    banks: usize,
+    from: u64,
+    to: u64,
+    bank: usize,
+    first: [usize; 4],
+    second: [usize; 4],
+) -> Estimates
+    requires { ⌜ (banks ≤ 16) × (banks * 2048 ≤ length (now counters)) × (from < 2 ^ 63) × (bank < banks) × Within first × Within second ⌝ }
+    ensures { λ r. ⌜ (now (counters .exit) ≡ turnedCounters (banks * 2048) from to (now (counters .entry))) × (r .active ≡ estimate (now (counters .exit)) bank (to % 2) (two first second (to % 2))) × (r .other ≡ estimate (now (counters .exit)) bank (1 - to % 2) (two first second (1 - to % 2))) ⌝ }
+{
+    filter_turn::turn(counters, banks, from, to);
+    let f = (to % 2) as usize;
+    let active = bank_estimate(&*counters, bank, first, second, f) as u64;
+    let other = bank_estimate(&*counters, bank, first, second, 1 - f) as u64;
+    Estimates { active, other }
+}
 
 // The answer to a request, with the head after it.
 pub struct Decided {
@@ -52,102 +74,51 @@ pub fn request(
     requires { ⌜ (callRefusal limits01 s (now seeds) (state h (now counters) (now ticks) (now rows) (now threads)) tick bank thread ≡ none) × (stored ≡ getD (h .bank) bank 0) × TableFor table (now seeds) ⌝ }
     ensures { λ r. ⌜ (outcome (answered (r .answer)) (state (r .head) (now (counters .exit)) (now (ticks .exit)) (now (rows .exit)) (now (threads .exit))) ≡ requested narrow s (λ f. places (now (seeds .entry)) row) (turned s (state h (now (counters .entry)) (now (ticks .entry)) (now (rows .entry)) (now (threads .entry))) tick) bank thread row) × Sound s (state (r .head) (now (counters .exit)) (now (ticks .exit)) (now (rows .exit)) (now (threads .exit))) ⌝ }
 {
-    let x = turn(s, h, counters, threads, tick);
+    let x = state::turn(s, h, threads, tick);
     let moved = x.head;
+    let to = x.to;
     let four = hash::places(table, seeds, row);
-    let v = look(
+    let e = look(
+        counters,
+        s.banks as usize,
+        x.from,
+        to,
+        bank as usize,
+        four,
+        four,
+    );
+    let y = settle(
         s,
         moved,
         stored,
-        &*counters,
-        &*ticks,
-        &*rows,
-        &*threads,
-        four,
-        four,
-        bank,
-        thread,
-        row,
-        x.epoch,
-    );
-    let d = decide(s, tick, v);
-    if !opens(d) {
-        return Decided {
-            answer: answer(d, 0),
-            head: moved,
-        };
-    }
-    let y = activate(
-        s,
-        moved,
-        counters,
         ticks,
         rows,
         threads,
-        four,
-        four,
         bank,
         thread,
         row,
-        x.epoch,
-        s.n <= v.active,
+        to,
+        e.active,
+        e.other,
     );
-    let after = y.head;
-    Decided {
-        answer: answer(d, openings_left(s.n, y.estimate)),
-        head: after,
+    let d = y.decision;
+    let head = y.head;
+    if !opens(d) {
+        return Decided {
+            answer: answer(d, 0),
+            head,
+        };
     }
-}
-
-// A request done: one less in flight. The history plays no part.
-pub fn done(
-    s: Setting,
-    h: Head,
-    counters: &mut [u16],
-    threads: &mut [u32],
-    tick: u64,
-    bank: u64,
-    thread: u64,
-) -> Head
-    requires { ⌜ Bounds s × (countersUsed s ≤ length (now counters)) × (threadsUsed s ≤ length (now threads)) × (bank < s .banks) × (thread < s .threads) × (1 ≤ getD (now threads) (threadCell s bank thread 2) 0) × (h .last ≤ tick) ⌝ }
-    ensures { λ r. ⌜ (r ≡ movedHead h tick) × (now (counters .exit) ≡ turnedCounters (countersUsed s) (epoch s (h .last)) (epoch s tick) (now (counters .entry))) × (now (threads .exit) ≡ oneLess s bank thread (turnedThreads (threadsUsed s) (epoch s (h .last)) (epoch s tick) (now (threads .entry)))) ⌝ }
-{
-    let x = turn(s, h, counters, threads, tick);
-    let head = x.head;
-    thread_counters::finish(threads, s, bank, thread);
-    head
-}
-
-// The RowHammer likelihood index of a thread in a bank: its counter in test, its full scale and the quota, with the head after the reading.
-pub struct Shown {
-    pub c: u64,
-    pub scale: u64,
-    pub quota: u64,
-    pub head: Head,
-}
-
-pub fn index(
-    s: Setting,
-    h: Head,
-    counters: &mut [u16],
-    threads: &mut [u32],
-    tick: u64,
-    bank: u64,
-    thread: u64,
-) -> Shown
-    requires { ⌜ Bounds s × (countersUsed s ≤ length (now counters)) × (threadsUsed s ≤ length (now threads)) × (bank < s .banks) × (thread < s .threads) × (h .last ≤ tick) ⌝ }
-    ensures { λ r. ⌜ (r .head ≡ movedHead h tick) × (now (counters .exit) ≡ turnedCounters (countersUsed s) (epoch s (h .last)) (epoch s tick) (now (counters .entry))) × (now (threads .exit) ≡ turnedThreads (threadsUsed s) (epoch s (h .last)) (epoch s tick) (now (threads .entry))) × (r .c ≡ indexCounter s (now (threads .exit)) bank thread (activeFilter s tick)) × (r .scale ≡ indexScale s) × (r .quota ≡ narrow .quota s (r .c)) ⌝ }
-{
-    let x = turn(s, h, counters, threads, tick);
-    let head = x.head;
-    let f = (x.epoch % 2) as usize;
-    let cell = thread_counters::cell(s, bank, thread);
-    let c = threads[cell + f];
-    let quota = quota::quota(s, c);
-    Shown {
-        c: c as u64,
-        scale: s.l - s.n,
-        quota,
+    let estimate = count(
+        counters,
+        bank as usize,
+        four,
+        four,
+        s.n as u16,
+        (to % 2) as usize,
+    ) as u64;
+    Decided {
+        answer: answer(d, openings_left(s.n, estimate)),
         head,
     }
 }

@@ -44,6 +44,8 @@ pub fn done(
     if flying_refusal(s, &*threads, bank, thread) != 0 {
         return Finished { code: 10, head: h };
     }
-    let head = calls::done(s, h, counters, threads, tick, bank, thread);
+    let x = filterless::done(s, h, threads, tick, bank, thread);
+    filter_turn::turn(counters, s.banks as usize, x.from, x.to);
+    let head = x.head;
     Finished { code: 0, head }
 }

@@ -46,7 +46,8 @@ pub fn setup(
             head: h,
         };
     }
-    let head = narrow::fresh(s, counters, ticks, rows, threads);
+    filter_turn::clear(counters, (s.banks * 2048) as usize);
+    let head = state::fresh(s, ticks, rows, threads);
     Started {
         code: 0,
         table,

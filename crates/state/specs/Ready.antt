@@ -5,22 +5,18 @@ use mathlib.Core.List.{List}
 use lib.ListN.{length}
 use Rattle.head.specs.declared.Head.{Head}
 use Rattle.rules.specs.declared.Setting.{Setting}
-use Rattle.rules.specs.declared.Limits.{Limits}
 use Rattle.rules.specs.Setting.{epochLength, historyLength}
 use Rattle.rules.specs.State.{threadsUsed}
+use Rattle.rules.specs.Policy.{limits02}
 use Rattle.rules.specs.Tested.{Ranges, Memory}
 
--- the widest limits for which the arithmetic of the calls is proved: N to 2^20, H to 32,768
-abbrev pub widest : Limits
-widest = record { threshold = 2 ^ 20; history = 32768 }
-
--- what the arithmetic of the calls needs of an accepted setting
+-- what the arithmetic of the calls needs of an accepted setting: it is proved for the limits of the widest counters
 pub record Bounds (s : Setting) : Type 0 where
-  pub ranges : Ranges widest s
+  pub ranges : Ranges limits02 s
   pub epoch : 2 ≤ epochLength s
   pub delay : s .td ≤ epochLength s
   pub scale : s .n < s .l
-  pub history : historyLength s ≤ 32768
+  pub history : historyLength s ≤ limits02 .history
 
 pub record Ready (s : Setting) (h : Head) (ticks rows threads : List ℕ) (bank thread : ℕ) : Type 0 where
   pub bounds : Bounds s

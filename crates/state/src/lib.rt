@@ -1,18 +1,35 @@
-// How the state moves apart from the filters, the clock and an activation, and what the decision on a request looks at. All on a state that
+// How the state moves apart from the filters, set-up, the clock and an activation, and what the decision on a request looks at. All on a state that
 // passed the tests; no function here knows the width of a counter.
 use head::Head;
 use rules::Setting;
 ghost use mathlib.Core.Path.{_≡_};
 ghost use Prim.Native.Nat.{_+_, _*_, _/_, _^_, _≤_, _<_};
+ghost use lib.Dec.{ltb};
 ghost use lib.ListN.{length, getD, set};
 ghost use Rattle.head.specs.Head.{movedHead, activatedHead};
+ghost use Rattle.rules.specs.Cells.{clearCells};
 ghost use Rattle.rules.specs.Setting.{historyLength};
-ghost use Rattle.rules.specs.State.{threadsUsed, threadCell, rowWord};
+ghost use Rattle.rules.specs.State.{threadsUsed, threadCell, rowWord, freshHead};
 ghost use Rattle.rules.specs.Clock.{epoch, turnedThreads};
 ghost use Rattle.rules.specs.Decision.{activatedThreads};
 ghost use Rattle.state.specs.Ready.{Bounds, Ready};
 
 pub mod look;
+
+// What set-up leaves apart from the filters: the used parts of history and thread counters cleared, and the head of zeros.
+pub fn fresh(s: Setting, ticks: &mut [u64], rows: &mut [u32], threads: &mut [u32]) -> Head
+    requires { ⌜ Bounds s × (historyLength s ≤ length (now ticks)) × (historyLength s ≤ length (now rows)) × (threadsUsed s ≤ length (now threads)) ⌝ }
+    ensures { λ r. ⌜ (r ≡ freshHead) × (now (ticks .exit) ≡ clearCells (λ i. ltb i (historyLength s)) (now (ticks .entry))) × (now (rows .exit) ≡ clearCells (λ i. ltb i (historyLength s)) (now (rows .entry))) × (now (threads .exit) ≡ clearCells (λ i. ltb i (threadsUsed s)) (now (threads .entry))) ⌝ }
+{
+    history::clear(ticks, rows, setting::history_length(s));
+    clearing::clear32(threads, (s.banks * s.threads * 3) as usize);
+    Head {
+        last: 0,
+        next: 0,
+        bank: [0; 16],
+        rank: [0; 4],
+    }
+}
 
 // The word of a row in the history: bank x 65,536 + row.
 pub fn row_word(bank: u64, row: u16) -> u32

@@ -1,19 +1,14 @@
-// The throttle: set-up, request, done and index for C, proved against the rules. Every call returns 0 when it answered, and else
-// the number of its refusal; a refused call changes nothing that was lent. Of buffers that overlap nothing is promised.
-use answers::out_words;
-use house_seeds::difference;
-use refusal::call_refusal;
-use refusal::done_refusal;
-use refusal::lent_refusal;
+// The throttle for C, proved against the rules: set-up, request, done and index with 16-bit filter counters, and the same with 32-bit ones. Every call
+// returns 0 when it answered, and else the number of its refusal; a refused call changes nothing that was lent. Of buffers that overlap nothing is promised.
+use lent_request::tested;
+use lent_request::told;
 use setting::narrow_limits;
+use setting::wide_limits;
 use words::load_head;
-use words::store_answered;
-use words::store_clock;
-use words::store_head;
 ghost use mathlib.Core.Path.{_≡_};
 ghost use mathlib.Core.List.{[]};
 ghost use Rattle.rules.specs.Setting.{settingOf};
-ghost use Rattle.rules.specs.Policy.{limits01, narrow};
+ghost use Rattle.rules.specs.Policy.{limits01, limits02, narrow, wide};
 ghost use Rattle.rules.specs.Calls.{request, done, index, setup, step};
 ghost use Rattle.interface.specs.Left.{left, found, leaves};
 
@@ -38,25 +33,18 @@ pub extern "C" fn throttle_setup(
 ) -> u32
     ensures { λ r. ⌜ left r [] (now (head .exit)) (now (counters .exit)) (now (ticks .exit)) (now (rows .exit)) (now (threads .exit)) ≡ leaves (setup limits01 (settingOf (now (setting .entry))) (now (seeds .entry)) (found (now (head .entry)) (now (counters .entry)) (now (ticks .entry)) (now (rows .entry)) (now (threads .entry)))) [] (now (head .entry)) ⌝ }
 {
-    let differing = difference(seeds);
-    let code = lent_refusal(
+    let x = lent_calls::setup(
         narrow_limits(),
         setting,
-        differing,
         seeds,
-        &*head,
+        head,
         counters.len(),
-        &*ticks,
-        rows.len(),
-        threads.len(),
-        false,
+        ticks,
+        rows,
+        threads,
     );
-    if code != 0 {
-        return code;
-    }
-    let s = setting::load(setting);
-    store_head(narrow::fresh(s, counters, ticks, rows, threads), head);
-    0
+    filter_turn::clear(counters, x.used);
+    x.code
 }
 
 // A request for a row: out gets the answer's number, the wait tick and the openings left.
@@ -79,11 +67,9 @@ pub extern "C" fn throttle_request(
 ) -> u32
     ensures { λ r. ⌜ left r (now (out .exit)) (now (head .exit)) (now (counters .exit)) (now (ticks .exit)) (now (rows .exit)) (now (threads .exit)) ≡ leaves (step narrow (settingOf (now (setting .entry))) (now (seeds .entry)) (found (now (head .entry)) (now (counters .entry)) (now (ticks .entry)) (now (rows .entry)) (now (threads .entry))) (request tick bank thread row)) (now (out .entry)) (now (head .entry)) ⌝ }
 {
-    let differing = difference(seeds);
-    let code = call_refusal(
+    let t = tested(
         narrow_limits(),
         setting,
-        differing,
         seeds,
         &*head,
         counters.len(),
@@ -94,14 +80,14 @@ pub extern "C" fn throttle_request(
         bank,
         thread,
     );
-    if code != 0 {
-        return code;
+    if t.code != 0 {
+        return t.code;
     }
     let s = setting::load(setting);
     let h = load_head(&*head);
     let d = calls::request(
         s,
-        differing == 0,
+        t.table,
         seeds,
         h,
         head[2 + bank as usize],
@@ -116,8 +102,7 @@ pub extern "C" fn throttle_request(
     );
     let answer = d.answer;
     let after = d.head;
-    store_answered(answer, after, head);
-    *out = out_words(answer);
+    told(answer, after, head, out);
     0
 }
 
@@ -138,31 +123,21 @@ pub extern "C" fn throttle_done(
 ) -> u32
     ensures { λ r. ⌜ left r [] (now (head .exit)) (now (counters .exit)) (now (ticks .exit)) (now (rows .exit)) (now (threads .exit)) ≡ leaves (step narrow (settingOf (now (setting .entry))) (now (seeds .entry)) (found (now (head .entry)) (now (counters .entry)) (now (ticks .entry)) (now (rows .entry)) (now (threads .entry))) (done tick bank thread)) [] (now (head .entry)) ⌝ }
 {
-    let differing = difference(seeds);
-    let code = done_refusal(
+    let x = lent_calls::done(
         narrow_limits(),
         setting,
-        differing,
         seeds,
-        &*head,
+        head,
         counters.len(),
         &*ticks,
-        rows.len(),
-        &*threads,
+        &*rows,
+        threads,
         tick,
         bank,
         thread,
     );
-    if code != 0 {
-        return code;
-    }
-    let s = setting::load(setting);
-    let h = load_head(&*head);
-    store_clock(
-        calls::done(s, h, counters, threads, tick, bank, thread),
-        head,
-    );
-    0
+    filter_turn::turn(counters, x.banks, x.from, x.to);
+    x.code
 }
 
 // The RowHammer likelihood index of a thread in a bank: out gets c, D and the quota.
@@ -183,11 +158,74 @@ pub extern "C" fn throttle_index(
 ) -> u32
     ensures { λ r. ⌜ left r (now (out .exit)) (now (head .exit)) (now (counters .exit)) (now (ticks .exit)) (now (rows .exit)) (now (threads .exit)) ≡ leaves (step narrow (settingOf (now (setting .entry))) (now (seeds .entry)) (found (now (head .entry)) (now (counters .entry)) (now (ticks .entry)) (now (rows .entry)) (now (threads .entry))) (index tick bank thread)) (now (out .entry)) (now (head .entry)) ⌝ }
 {
-    let differing = difference(seeds);
-    let refusal = call_refusal(
+    let x = lent_calls::index(
         narrow_limits(),
         setting,
-        differing,
+        seeds,
+        head,
+        counters.len(),
+        &*ticks,
+        &*rows,
+        threads,
+        tick,
+        bank,
+        thread,
+        out,
+    );
+    filter_turn::turn(counters, x.banks, x.from, x.to);
+    x.code
+}
+
+// Set-up at the new width: N to 2^20, H to 32,768.
+// It rules out: the limits of the old width, and counters that are cleared as if they were half as wide.
+#[no_mangle]
+pub extern "C" fn throttle_wide_setup(
+    setting: &[u64; 10],
+    seeds: &[u16],
+    head: &mut [u64; 22],
+    counters: &mut [u32],
+    ticks: &mut [u64],
+    rows: &mut [u32],
+    threads: &mut [u32],
+) -> u32
+    ensures { λ r. ⌜ left r [] (now (head .exit)) (now (counters .exit)) (now (ticks .exit)) (now (rows .exit)) (now (threads .exit)) ≡ leaves (setup limits02 (settingOf (now (setting .entry))) (now (seeds .entry)) (found (now (head .entry)) (now (counters .entry)) (now (ticks .entry)) (now (rows .entry)) (now (threads .entry)))) [] (now (head .entry)) ⌝ }
+{
+    let x = lent_calls::setup(
+        wide_limits(),
+        setting,
+        seeds,
+        head,
+        counters.len(),
+        ticks,
+        rows,
+        threads,
+    );
+    wide_filter::clear(counters, x.used);
+    x.code
+}
+
+// A request at the new width.
+// It rules out: a counter that stops at 65,535, or an estimate that is cut to 16 bits.
+#[no_mangle]
+pub extern "C" fn throttle_wide_request(
+    setting: &[u64; 10],
+    seeds: &[u16],
+    head: &mut [u64; 22],
+    counters: &mut [u32],
+    ticks: &mut [u64],
+    rows: &mut [u32],
+    threads: &mut [u32],
+    tick: u64,
+    bank: u64,
+    thread: u64,
+    row: u16,
+    out: &mut [u64; 3],
+) -> u32
+    ensures { λ r. ⌜ left r (now (out .exit)) (now (head .exit)) (now (counters .exit)) (now (ticks .exit)) (now (rows .exit)) (now (threads .exit)) ≡ leaves (step wide (settingOf (now (setting .entry))) (now (seeds .entry)) (found (now (head .entry)) (now (counters .entry)) (now (ticks .entry)) (now (rows .entry)) (now (threads .entry))) (request tick bank thread row)) (now (out .entry)) (now (head .entry)) ⌝ }
+{
+    let t = tested(
+        wide_limits(),
+        setting,
         seeds,
         &*head,
         counters.len(),
@@ -198,14 +236,98 @@ pub extern "C" fn throttle_index(
         bank,
         thread,
     );
-    if refusal != 0 {
-        return refusal;
+    if t.code != 0 {
+        return t.code;
     }
     let s = setting::load(setting);
     let h = load_head(&*head);
-    let x = calls::index(s, h, counters, threads, tick, bank, thread);
-    let after = x.head;
-    store_clock(after, head);
-    *out = [x.c, x.scale, x.quota];
+    let d = wide_calls::request(
+        s,
+        t.table,
+        seeds,
+        h,
+        head[2 + bank as usize],
+        counters,
+        ticks,
+        rows,
+        threads,
+        tick,
+        bank,
+        thread,
+        row,
+    );
+    let answer = d.answer;
+    let after = d.head;
+    told(answer, after, head, out);
     0
+}
+
+// A request done, at the new width.
+// It rules out: filters that are not turned.
+#[no_mangle]
+pub extern "C" fn throttle_wide_done(
+    setting: &[u64; 10],
+    seeds: &[u16],
+    head: &mut [u64; 22],
+    counters: &mut [u32],
+    ticks: &mut [u64],
+    rows: &mut [u32],
+    threads: &mut [u32],
+    tick: u64,
+    bank: u64,
+    thread: u64,
+) -> u32
+    ensures { λ r. ⌜ left r [] (now (head .exit)) (now (counters .exit)) (now (ticks .exit)) (now (rows .exit)) (now (threads .exit)) ≡ leaves (step wide (settingOf (now (setting .entry))) (now (seeds .entry)) (found (now (head .entry)) (now (counters .entry)) (now (ticks .entry)) (now (rows .entry)) (now (threads .entry))) (done tick bank thread)) [] (now (head .entry)) ⌝ }
+{
+    let x = lent_calls::done(
+        wide_limits(),
+        setting,
+        seeds,
+        head,
+        counters.len(),
+        &*ticks,
+        &*rows,
+        threads,
+        tick,
+        bank,
+        thread,
+    );
+    wide_filter::turn(counters, x.banks, x.from, x.to);
+    x.code
+}
+
+// The RowHammer likelihood index of a thread in a bank, at the new width.
+// It rules out: the limits of the old width.
+#[no_mangle]
+pub extern "C" fn throttle_wide_index(
+    setting: &[u64; 10],
+    seeds: &[u16],
+    head: &mut [u64; 22],
+    counters: &mut [u32],
+    ticks: &mut [u64],
+    rows: &mut [u32],
+    threads: &mut [u32],
+    tick: u64,
+    bank: u64,
+    thread: u64,
+    out: &mut [u64; 3],
+) -> u32
+    ensures { λ r. ⌜ left r (now (out .exit)) (now (head .exit)) (now (counters .exit)) (now (ticks .exit)) (now (rows .exit)) (now (threads .exit)) ≡ leaves (step wide (settingOf (now (setting .entry))) (now (seeds .entry)) (found (now (head .entry)) (now (counters .entry)) (now (ticks .entry)) (now (rows .entry)) (now (threads .entry))) (index tick bank thread)) (now (out .entry)) (now (head .entry)) ⌝ }
+{
+    let x = lent_calls::index(
+        wide_limits(),
+        setting,
+        seeds,
+        head,
+        counters.len(),
+        &*ticks,
+        &*rows,
+        threads,
+        tick,
+        bank,
+        thread,
+        out,
+    );
+    wide_filter::turn(counters, x.banks, x.from, x.to);
+    x.code
 }

@@ -13,7 +13,7 @@ use Rattle.rules.proofs.Accept.{set-up, number-none}
 use Rattle.hash_words.specs.Words.{TableFor}
 use Rattle.refusal.specs.Tests.{setupTest}
 use Rattle.refusal.proofs.Refusals.{setup-test}
-use Rattle.calls.proofs.Requests.{narrow-widest, bounds}
+use Rattle.filterless.proofs.Requests.{narrow-widest, bounds}
 use Rattle.sound_told.proofs.Tells.{begun-refused, begun-taken}
 use borrow.Author.Needs.{needs}
 use Rattle.sound_setup.proofs.setup.Statement.{statement}
@@ -68,10 +68,16 @@ returns c =
     let start = asked (c .before) in
     (begun-refused (start .args .s) (start .args .seeds .now) (entry start) (c .before .setup-refusal .result) (code-is (c .before)) (c .if1 .taken), house-only (c .before))
 
+mul-clear : tie.Need-mul-clear
+mul-clear c = omega (arith, ok (c .before .before) .setting .ranges .banks-high)
+
+clear-requires : tie.Need-clear-requires
+clear-requires c κs = ok (c .before .before) .long .counters
+
 fresh-requires : tie.Need-fresh-requires
 fresh-requires c κs =
-    let k = ok (c .before .before .before .before) in
-    (bounds narrow-widest (k .setting), record { counters = k .long .counters; ticks = k .long .ticks; rows = k .long .rows; threads = k .long .threads })
+    let k = ok (c .before .before .before .before .before .before .before .before) in
+    (bounds narrow-widest (k .setting), k .long .ticks, k .long .rows, k .long .threads)
 
 same-length : tie.Need-same-length
 same-length c = search needs
@@ -88,11 +94,11 @@ same-length-4 c = search needs
 returns-2 : tie.Need-returns-2
 unfolding fresh
 returns-2 c =
-    let here = c .before .before .before .before .before .before .before .before .before .before .before .before .before in
+    let here = (c .before .before .before .before .before .before .before .before .before .before .before .before .before .before .before) in
     let start = begun here in
-    let at-fresh = c .before .before .before .before .before .before .before .before in
-    let q = at-fresh .fresh .last in
-    (begun-taken (start .args .s) (start .args .seeds .now) (entry start) (state (at-fresh .fresh .result) (q .1 .0) (q .1 .1 .0) (q .1 .1 .1 .0) (q .1 .1 .1 .1 .0)) (taken here) (at-fresh .fresh .ensures), house-only (here .before))
+    let e = c .before .before .before .before .before .before .fresh .ensures in
+    let cleared = c .before .before .before .before .before .before .before .before .before .before .before .before .clear .ensures in
+    (begun-taken (start .args .s) (start .args .seeds .now) (entry start) _ (taken here) (λ i. state (e .0 i) (cleared i) (e .1 i) (e .2 i) (e .3 i)), house-only (here .before))
 
 pub setup-spec : {M : Type 1} → statement M
 setup-spec =
@@ -102,6 +108,8 @@ setup-spec =
     narrow-limits-requires
     setup-refusal-requires
     returns
+    mul-clear
+    clear-requires
     fresh-requires
     same-length
     same-length-2

@@ -2,7 +2,6 @@
 use Prim.Native.Nat.{_<_}
 use mathlib.Core.Path.{_≡_, sym, ap, ap₂, _∙_}
 use native.Mathlib.Omega.{arith}
-use borrow.Author.Tests.{eqb-true}
 use lib.ListN.{getD}
 use Rattle.head.specs.declared.Head.{Head}
 use Rattle.rules.specs.declared.Setting.{Setting}
@@ -15,7 +14,7 @@ use Rattle.rules.specs.Policy.{limits01, narrow}
 use Rattle.rules.specs.Calls.{Outcome, answered, outcome, callRefusal, requested, step}
 use Rattle.rules.proofs.Accept.{number-none, taken}
 use Rattle.interface.specs.Left.{found}
-use Rattle.throttle.proofs.Settled.{left-refused, bank-word, call-code, held, left-request}
+use Rattle.lent_request.proofs.Settled.{left-refused, bank-word, call-code, held, left-request}
 use borrow.Author.Needs.{needs}
 use Rattle.throttle.proofs.throttle_request.Statement.{statement}
 use Rattle.throttle.proofs.throttle_request.Tie as tie
@@ -32,35 +31,35 @@ abbrev performs : tie.Start → Outcome
 performs c = let a = c .args in requested narrow (s c) (λ f. places (a .seeds .now) (a .row)) (turned (s c) (entry c) (a .tick)) (a .bank) (a .thread) (a .row)
 
 -- the start, from where the code is known and from where it is 0
-abbrev asked : tie.After-call-refusal → tie.Start
-asked c = (c .before .before .before .before .before .before .before .before .before .before)
+abbrev asked : tie.After-tested → tie.Start
+asked c = (c .before .before .before .before .before .before .before .before .before)
+
+abbrev known : tie.Else1 → tie.After-tested
+known c = (c .before .before)
 
 abbrev begun : tie.Else1 → tie.Start
-begun c = asked (c .before)
+begun c = asked (known c)
 
--- the head and the setting are loaded; before all, the pass over the seeds
-abbrev headed : tie.After-request-arg5 → tie.After-load-head
-headed c = (c .before .before .before .before .before)
-
+-- the head and the setting are loaded
 abbrev loaded : tie.After-load-head → tie.After-load
 loaded c = (c .before .before)
 
 abbrev passed : tie.After-load-head → tie.Else1
-passed c = (loaded c .before)
+passed c = (c .before .before .before)
 
-abbrev compared : tie.Else1 → tie.After-difference
-compared c = (c .before .before .before .before .before)
+abbrev headed : tie.After-request → tie.After-load-head
+headed c = (c .before .before .before .before .before .before)
 
 -- the code is the number of the rules' refusal
-code-is : (c : tie.After-call-refusal) → let start = asked c in let a = start .args in c .call-refusal .result ≡ refusalNumber (callRefusal limits01 (s start) (a .seeds .now) (entry start) (a .tick) (a .bank) (a .thread))
+code-is : (c : tie.After-tested) → let start = asked c in let a = start .args in c .tested .result .code ≡ refusalNumber (callRefusal limits01 (s start) (a .seeds .now) (entry start) (a .tick) (a .bank) (a .thread))
 code-is c =
     let start = asked c in
     let a = start .args in
-    call-code (s start) (a .seeds .now) (a .head .now) (a .counters .now) (a .ticks .now) (a .rows .now) (a .threads .now) _ (a .tick) (a .bank) (a .thread) _
-    (c .call-refusal .ensures) (c .before .before .before .narrow-limits .ensures)
+    call-code limits01 (s start) (a .seeds .now) (a .head .now) (a .counters .now) (a .ticks .now) (a .rows .now) (a .threads .now) (a .tick) (a .bank) (a .thread) _
+    (rw (c .before .before .before .narrow-limits .ensures) at (c .tested .ensures .0))
 
 free : (c : tie.Else1) → let start = begun c in let a = start .args in callRefusal limits01 (s start) (a .seeds .now) (entry start) (a .tick) (a .bank) (a .thread) ≡ none
-free c = number-none _ (sym (code-is (c .before)) ∙ c .if1 .left)
+free c = number-none _ (sym (code-is (known c)) ∙ c .if1 .left)
 
 -- so the bank is one of the head's sixteen
 in-head : (c : tie.Else1) → begun c .args .bank < 16
@@ -75,22 +74,19 @@ abbrev after : tie.After-request → State
 after c = let q = c .request in let buffers = q .last .1 .1 .1 .1 .1 in state (q .result .head) (buffers .0) (buffers .1 .0) (buffers .1 .1 .0) (buffers .1 .1 .1 .0)
 
 -- what was loaded is what the words hold, so it is the rules' request
-left-by : (c : tie.After-request) → outcome (answered (c .request .result .answer)) (after c) ≡ performs (begun (passed (headed (c .before))))
+left-by : (c : tie.After-request) → outcome (answered (c .request .result .answer)) (after c) ≡ performs (begun (passed (headed c)))
 left-by c =
-    let at = headed (c .before) in
+    let at = headed c in
     let a = begun (passed at) .args in
     c .request .ensures .0
     ∙ ap₂ (λ σ h. requested narrow σ (λ f. places (a .seeds .now) (a .row)) (turned σ (state h (a .counters .now) (a .ticks .now) (a .rows .now) (a .threads .now)) (a .tick)) (a .bank) (a .thread) (a .row))
     (loaded at .load .ensures) (at .load-head .ensures)
 
-difference-requires : tie.Need-difference-requires
-difference-requires c κs = search needs
-
 narrow-limits-requires : tie.Need-narrow-limits-requires
 narrow-limits-requires c κs = search needs
 
-call-refusal-requires : tie.Need-call-refusal-requires
-call-refusal-requires c κs = let limits = c .before .before in (rw (limits .narrow-limits .ensures) (omega arith), limits .before .difference .ensures)
+tested-requires : tie.Need-tested-requires
+tested-requires c κs = rw (c .before .before .narrow-limits .ensures) (omega arith)
 
 same-length : tie.Need-same-length
 same-length c = search needs
@@ -98,10 +94,10 @@ same-length c = search needs
 returns : tie.Need-returns
 unfolding step
 returns c =
-    let at = (c .before) in
+    let at = (c .before .before) in
     let start = asked at in
     let a = start .args in
-    left-refused (callRefusal limits01 (s start) (a .seeds .now) (entry start) (a .tick) (a .bank) (a .thread)) (performs start) (at .call-refusal .result)
+    left-refused (callRefusal limits01 (s start) (a .seeds .now) (entry start) (a .tick) (a .bank) (a .thread)) (performs start) (at .tested .result .code)
     (a .out .now) (a .head .now) (a .counters .now) (a .ticks .now) (a .rows .now) (a .threads .now) (code-is at) (c .if1 .taken)
 
 load-requires : tie.Need-load-requires
@@ -121,25 +117,22 @@ element-copy-out-request c = let k = in-head (passed c) in omega arith
 
 request-requires : tie.Need-request-requires
 request-requires c κs =
-    let at = headed c in
+    let at = (c .before .before .before .before .before) in
     let here = passed at in
     let a = begun here .args in
     let refused : Setting → Head → Refusal = λ σ h. callRefusal limits01 σ (a .seeds .now) (state h (a .counters .now) (a .ticks .now) (a .rows .now) (a .threads .now)) (a .tick) (a .bank) (a .thread) in (
       ap₂ refused (loaded at .load .ensures) (at .load-head .ensures) ∙ free here,
       bank-word (a .head .now) (a .bank) (in-head here) ∙ ap (λ h. getD (h .bank) (a .bank) 0) (sym (at .load-head .ensures)),
-      λ e. compared here .difference .ensures .none (eqb-true _ 0 e),
+      known here .tested .ensures .1,
     )
 
-store-answered-requires : tie.Need-store-answered-requires
-store-answered-requires c κs =
-    let at = (c .before .before .before .before .before .before .before .before .before .before) in
-    let start = begun (passed (headed (at .before))) in
+told-requires : tie.Need-told-requires
+told-requires c κs =
+    let at = (c .before .before .before .before .before .before .before .before .before .before .before) in
+    let start = begun (passed (headed at)) in
     let a = start .args in
-    held (s start) (a .seeds .now) (a .head .now) (a .counters .now) (a .ticks .now) (a .rows .now) (a .threads .now)
+    held limits01 (s start) (a .seeds .now) (a .head .now) (a .counters .now) (a .ticks .now) (a .rows .now) (a .threads .now)
     (a .tick) (a .bank) (a .thread) (a .row) (at .request .result .answer) (after at) (left-by at)
-
-out-words-requires : tie.Need-out-words-requires
-out-words-requires c κs = search needs
 
 same-length-2 : tie.Need-same-length-2
 same-length-2 c = search needs
@@ -155,22 +148,20 @@ same-length-5 c = search needs
 
 returns-2 : tie.Need-returns-2
 returns-2 c =
-    let told = (c .before) in
-    let at = (told .before .before .before .before .before .before .before .before .before .before .before) in
-    let here = passed (headed (at .before)) in
+    let at = (c .before .before .before .before .before .before .before .before .before .before .before .before) in
+    let here = passed (headed at) in
     let start = begun here in
     let a = start .args in
-    rw (told .store-answered .ensures, c .out-words .ensures)
-    (left-request (s start) (a .seeds .now) (a .head .now) (a .counters .now) (a .ticks .now) (a .rows .now) (a .threads .now)
+    rw (c .told .ensures .0, c .told .ensures .1)
+    (left-request limits01 (s start) (a .seeds .now) (a .head .now) (a .counters .now) (a .ticks .now) (a .rows .now) (a .threads .now)
     (a .tick) (a .bank) (a .thread) (a .row) (a .out .now) (ap refusalNumber (free here)) (at .request .result .answer) (after at) (left-by at))
 
 pub throttle-request-spec : {M : Type 1} → statement M
 throttle-request-spec =
     tie.close
     (tie.spec
-    difference-requires
     narrow-limits-requires
-    call-refusal-requires
+    tested-requires
     same-length
     returns
     load-requires
@@ -179,8 +170,7 @@ throttle-request-spec =
     mul-request
     element-copy-out-request
     request-requires
-    store-answered-requires
-    out-words-requires
+    told-requires
     same-length-2
     same-length-3
     same-length-4

@@ -1,0 +1,30 @@
+-- The decision on a request from the estimates of its row, and what it leaves apart from the filters.
+use mathlib.Core.Path.{_≡_}
+use mathlib.Core.List.{List}
+use mathlib.Core.Bool.{true, false}
+use Prim.Native.Nat.{ℕ, _+_}
+use lib.ListN.{set}
+use Rattle.head.specs.declared.Head.{Head}
+use Rattle.head.specs.Head.{activatedHead}
+use Rattle.rules.specs.declared.Setting.{Setting}
+use Rattle.rules.specs.declared.Decision.{Decision}
+use Rattle.rules.specs.Setting.{historyLength}
+use Rattle.rules.specs.State.{rowWord}
+use Rattle.rules.specs.Filter.{blacklisted}
+use Rattle.rules.specs.Policy.{narrow}
+use Rattle.rules.specs.Decision.{opens, activatedThreads}
+use Rattle.decision.specs.Numbers.{decideFrom, viewOf}
+
+-- The decision at the last tick on a row with these estimates in the active and in the other filter. The limits of a width play no part in it, so
+-- `narrow` stands for the rules in force at every width.
+unfoldable pub decisionBy : Setting → ℕ → ℕ → Head → List ℕ → List ℕ → List ℕ → ℕ → ℕ → ℕ → Decision
+decisionBy s active other h ticks rows threads bank thread row =
+    decideFrom s (h .last) (viewOf narrow s active other h ticks rows threads bank thread row)
+
+-- What is left of head, history and thread counters: where the row is opened, those of an activation, else the same.
+pub record Settles (s : Setting) (active : ℕ) (h : Head) (ticks rows threads : List ℕ) (bank thread row : ℕ) (d : Decision)
+    (h′ : Head) (ticks′ rows′ threads′ : List ℕ) : Type 0 where
+  pub waits : opens d ≡ false → (h′ ≡ h) × (ticks′ ≡ ticks) × (rows′ ≡ rows) × (threads′ ≡ threads)
+  pub opened : opens d ≡ true
+      → (h′ ≡ activatedHead (historyLength s) h bank) × (ticks′ ≡ set ticks (h .next) (h .last + 1)) × (rows′ ≡ set rows (h .next) (rowWord bank row))
+      × (threads′ ≡ activatedThreads s threads bank thread (blacklisted (s .n) active))

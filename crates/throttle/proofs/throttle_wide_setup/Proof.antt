@@ -1,0 +1,43 @@
+-- `throttle_wide_setup` clears the filters as what is left of set-up says.
+use mathlib.Core.Path.{refl}
+use native.Mathlib.Omega.{arith}
+use borrow.Author.Needs.{needs}
+use Rattle.throttle.proofs.throttle_wide_setup.Statement.{statement}
+use Rattle.throttle.proofs.throttle_wide_setup.Tie as tie
+
+wide-limits-requires : tie.Need-wide-limits-requires
+wide-limits-requires c κs = search needs
+
+setup-requires : tie.Need-setup-requires
+setup-requires c κs = rw (c .before .before .before .before .wide-limits .ensures) (omega arith, omega arith)
+
+clear-requires : tie.Need-clear-requires
+clear-requires c κs = search needs
+
+same-length : tie.Need-same-length
+same-length c = search needs
+
+same-length-2 : tie.Need-same-length-2
+same-length-2 c = search needs
+
+same-length-3 : tie.Need-same-length-3
+same-length-3 c = search needs
+
+same-length-4 : tie.Need-same-length-4
+same-length-4 c = search needs
+
+returns : tie.Need-returns
+returns c = rw (c .before .before .clear .ensures) (rw (c .before .before .before .before .before .before .before .before .before .before .before .before .before .before .before .wide-limits .ensures) at (c .before .before .before .before .before .before .before .before .before .before .setup .ensures .1) (c .before .before .before .before .before .before .before .before .before .before .before .before .before .before .before .before .before .before .before .before .before .args .counters .now) refl)
+
+pub throttle-wide-setup-spec : {M : Type 1} → statement M
+throttle-wide-setup-spec =
+    tie.close
+    (tie.spec
+    wide-limits-requires
+    setup-requires
+    clear-requires
+    same-length
+    same-length-2
+    same-length-3
+    same-length-4
+    returns)

@@ -1,0 +1,123 @@
+// A request on a state with 32-bit filters that passed the tests of refusals 1 to 9 and 16 at the limits of that width.
+use answers::answer;
+use answers::openings_left;
+use answers::opens;
+use filterless::settle;
+use head::Head;
+use rules::Answer;
+use rules::Setting;
+use wide_filter::bank_estimate;
+use wide_filter::count;
+ghost use mathlib.Core.Path.{_≡_};
+ghost use Prim.Native.Nat.{_-_, _*_, _%_, _^_, _≤_, _<_};
+ghost use lib.ListN.{length, getD};
+ghost use Rattle.rules.specs.Answers.{none};
+ghost use Rattle.rules.specs.State.{state};
+ghost use Rattle.rules.specs.Clock.{turnedCounters, turned};
+ghost use Rattle.rules.specs.Hash.{places};
+ghost use Rattle.rules.specs.Filter.{Within, two, estimate};
+ghost use Rattle.rules.specs.Policy.{limits02, wide};
+ghost use Rattle.rules.specs.Tested.{Sound};
+ghost use Rattle.rules.specs.Calls.{answered, callRefusal, outcome, requested};
+ghost use Rattle.hash_words.specs.Words.{TableFor};
+
+// The estimates of a row in the active and in the other filter.
+pub struct Estimates {
+    pub active: u64,
+    pub other: u64,
+}
+
+// Turns the filters from one epoch to another, and reads the estimates of a row with these places in filter 0 and filter 1 then.
+fn look(
+    counters: &mut [u32],
+    banks: usize,
+    from: u64,
+    to: u64,
+    bank: usize,
+    first: [usize; 4],
+    second: [usize; 4],
+) -> Estimates
+    requires { ⌜ (banks ≤ 16) × (banks * 2048 ≤ length (now counters)) × (from < 2 ^ 63) × (bank < banks) × Within first × Within second ⌝ }
+    ensures { λ r. ⌜ (now (counters .exit) ≡ turnedCounters (banks * 2048) from to (now (counters .entry))) × (r .active ≡ estimate (now (counters .exit)) bank (to % 2) (two first second (to % 2))) × (r .other ≡ estimate (now (counters .exit)) bank (1 - to % 2) (two first second (1 - to % 2))) ⌝ }
+{
+    wide_filter::turn(counters, banks, from, to);
+    let f = (to % 2) as usize;
+    let active = bank_estimate(&*counters, bank, first, second, f) as u64;
+    let other = bank_estimate(&*counters, bank, first, second, 1 - f) as u64;
+    Estimates { active, other }
+}
+
+// The answer to a request, with the head after it.
+pub struct Decided {
+    pub answer: Answer,
+    pub head: Head,
+}
+
+// Decides on a request and, where it is opened, makes the activation. stored is the bank's cell of the head; `table` says that the seeds are the
+// house seeds.
+pub fn request(
+    s: Setting,
+    table: bool,
+    seeds: &[u16],
+    h: Head,
+    stored: u64,
+    counters: &mut [u32],
+    ticks: &mut [u64],
+    rows: &mut [u32],
+    threads: &mut [u32],
+    tick: u64,
+    bank: u64,
+    thread: u64,
+    row: u16,
+) -> Decided
+    requires { ⌜ (callRefusal limits02 s (now seeds) (state h (now counters) (now ticks) (now rows) (now threads)) tick bank thread ≡ none) × (stored ≡ getD (h .bank) bank 0) × TableFor table (now seeds) ⌝ }
+    ensures { λ r. ⌜ (outcome (answered (r .answer)) (state (r .head) (now (counters .exit)) (now (ticks .exit)) (now (rows .exit)) (now (threads .exit))) ≡ requested wide s (λ f. places (now (seeds .entry)) row) (turned s (state h (now (counters .entry)) (now (ticks .entry)) (now (rows .entry)) (now (threads .entry))) tick) bank thread row) × Sound s (state (r .head) (now (counters .exit)) (now (ticks .exit)) (now (rows .exit)) (now (threads .exit))) ⌝ }
+{
+    let x = state::turn(s, h, threads, tick);
+    let moved = x.head;
+    let to = x.to;
+    let four = hash::places(table, seeds, row);
+    let e = look(
+        counters,
+        s.banks as usize,
+        x.from,
+        to,
+        bank as usize,
+        four,
+        four,
+    );
+    let y = settle(
+        s,
+        moved,
+        stored,
+        ticks,
+        rows,
+        threads,
+        bank,
+        thread,
+        row,
+        to,
+        e.active,
+        e.other,
+    );
+    let d = y.decision;
+    let head = y.head;
+    if !opens(d) {
+        return Decided {
+            answer: answer(d, 0),
+            head,
+        };
+    }
+    let estimate = count(
+        counters,
+        bank as usize,
+        four,
+        four,
+        s.n as u32,
+        (to % 2) as usize,
+    ) as u64;
+    Decided {
+        answer: answer(d, openings_left(s.n, estimate)),
+        head,
+    }
+}
