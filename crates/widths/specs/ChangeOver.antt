@@ -41,3 +41,7 @@ changeOver s seeds old new =
 -- the state with other filter counters: after the change-over, that of the new width
 abbrev pub withCounters : State → List ℕ → State
 withCounters st counters = state (st .head) counters (st .ticks) (st .rows) (st .threads)
+
+-- The state of the new width that a change-over leaves: only the counters are others, so head, history and thread counters are those that it found.
+abbrev pub changedState : Setting → List ℕ → State → List ℕ → State
+changedState s seeds old new = withCounters old (changeOver s seeds old new .counters)

@@ -1,1 +1,2 @@
 pub mod ChangeOver
+pub mod Claims
