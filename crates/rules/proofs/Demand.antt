@@ -19,7 +19,7 @@ use Rattle.rules.proofs.Tests.{cond-yes}
 use Rattle.rules.proofs.Accept.{set-up, epoch-long}
 use Rattle.rules.specs.Tested.{Accepted}
 use Rattle.rules.proofs.Moves.{spans-of-moves}
-use Rattle.rules.proofs.Step.{run-moves}
+use Rattle.rules.proofs.Step.{owned, run-moves}
 
 -- the bound for a span of W ticks is B: three epochs meet it, so F is 2N
 window-epochs : (d : ℕ) → 2 ≤ d → ceilDiv (ceilDiv (2 * d - 1) d + 1) 2 ≡ 2
@@ -40,7 +40,7 @@ window-bound m s seeds ok =
 
 -- ---- moves after a set-up that is not refused, from the setting's seeds in both filters
 
-module _ (m : Limits) (s : Setting) (seeds : List ℕ) (before : State) (e : setupRefusal m s seeds before ≡ none) (y : Owned) (os : List Activation) (run : Moves s (record { state = fresh s before; own = λ f. seeds }) y os) where
+module _ (m : Limits) (s : Setting) (seeds : List ℕ) (before : State) (e : setupRefusal m s seeds before ≡ none) (y : Owned) (os : List Activation) (run : Moves s (owned seeds (fresh s before)) y os) where
   pub spans-after : (bank row start x : ℕ) → 1 ≤ x → timesActivated bank row start x os ≤ spanBound s x
   spans-after bank row start x x1 =
       let up = set-up m s seeds before e in

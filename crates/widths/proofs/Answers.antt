@@ -14,7 +14,7 @@ use Rattle.rules.specs.Policy.{Policy, limits01, limits02, narrow, wide}
 use Rattle.rules.specs.Calls.{Call, step, replies, after}
 use Rattle.rules.specs.Claims.{SameUsed, SameFrom}
 use Rattle.rules.proofs.Theorems.{theorems as rules}
-use Rattle.widths.specs.ChangeOver.{changeOverRefusal, changeOver, changedState}
+use Rattle.widths.specs.ChangeOver.{changeOverRefusal, changedState}
 use Rattle.widths.specs.Claims.{AnswersAsBefore}
 use Rattle.widths.proofs.Limits.{old-accepted}
 use Rattle.widths.proofs.ChangeOver.{taken, leaves}
@@ -27,8 +27,8 @@ whole n a b a′ b′ e x y u = ext-getD 0 b′ a′ (y .0 ∙ ap length e ∙ s
     go i (yes k) = u i k
     go i (no k) = y .1 i (omega arith) ∙ ap (λ l. getD l i 0) e ∙ sym (x .1 i (omega arith))
 
--- equal but for the counters, and equal in the used ones
-pub record Twins (s : Setting) (a b : State) : Type 0 where
+-- equal but for the rest of the counters
+pub record SameButRest (s : Setting) (a b : State) : Type 0 where
   pub used : SameUsed s a b
   pub ticks : b .ticks ≡ a .ticks
   pub rows : b .rows ≡ a .rows
@@ -36,9 +36,9 @@ pub record Twins (s : Setting) (a b : State) : Type 0 where
 
 -- ---- the change-over
 
-pub over-twins : (s : Setting) (seeds : List ℕ) (old : State) (new : List ℕ) → changeOverRefusal s seeds old new ≡ none
-    → Twins s old (changedState s seeds old new)
-over-twins s seeds old new e =
+pub over-same : (s : Setting) (seeds : List ℕ) (old : State) (new : List ℕ) → changeOverRefusal s seeds old new ≡ none
+    → SameButRest s old (changedState s seeds old new)
+over-same s seeds old new e =
     let k = taken s seeds old new e in
     let l = leaves s seeds old new in
     record {
@@ -59,27 +59,29 @@ over-twins s seeds old new e =
 -- ---- the calls
 
 module _ (s : Setting) (seeds : List ℕ) (e : settingRefusal limits01 s seeds ≡ none) where
-  pub step-twins : (a b : State) → Twins s a b → (c : Call)
-      → (step wide s seeds b c .reply ≡ step narrow s seeds a c .reply) × Twins s (step narrow s seeds a c .state) (step wide s seeds b c .state)
-  step-twins a b t c =
+  pub step-same : (a b : State) → SameButRest s a b → (c : Call)
+      → (step wide s seeds b c .reply ≡ step narrow s seeds a c .reply) × SameButRest s (step narrow s seeds a c .state) (step wide s seeds b c .state)
+  step-same a b t c =
       let same = rules .sameReplies narrow (rules .inForceUsedFlying limits01) limits02 s seeds e (old-accepted s seeds e) a b (t .used) (c ∷ []) in
       let ra = rules .restKept narrow .call s seeds a c in
       let rb = rules .restKept wide .call s seeds b c in
       let u = same .1 in
-      let replied = same .0 in
-      (cc, record {
-        used = u;
-        ticks = whole (historyLength s) (a .ticks) (b .ticks) _ _ (t .ticks) (ra .ticks) (rb .ticks) (u .ticks);
-        rows = whole (historyLength s) (a .rows) (b .rows) _ _ (t .rows) (ra .rows) (rb .rows) (u .rows);
-        threads = whole (threadsUsed s) (a .threads) (b .threads) _ _ (t .threads) (ra .threads) (rb .threads) (u .threads);
-      })
+      let replied = same .0 in (
+        cc,
+        record {
+          used = u;
+          ticks = whole (historyLength s) (a .ticks) (b .ticks) _ _ (t .ticks) (ra .ticks) (rb .ticks) (u .ticks);
+          rows = whole (historyLength s) (a .rows) (b .rows) _ _ (t .rows) (ra .rows) (rb .rows) (u .rows);
+          threads = whole (threadsUsed s) (a .threads) (b .threads) _ _ (t .threads) (ra .threads) (rb .threads) (u .threads);
+        },
+      )
 
-  run-twins : (cs : List Call) (a b : State) → Twins s a b
-      → (replies wide s seeds b cs ≡ replies narrow s seeds a cs) × Twins s (after narrow s seeds a cs) (after wide s seeds b cs)
-  run-twins [] a b t = (refl, t)
-  run-twins (c ∷ cs) a b t =
-      let x = step-twins a b t c in
-      let rest = run-twins cs (step narrow s seeds a c .state) (step wide s seeds b c .state) (x .1) in
+  run-same : (cs : List Call) (a b : State) → SameButRest s a b
+      → (replies wide s seeds b cs ≡ replies narrow s seeds a cs) × SameButRest s (after narrow s seeds a cs) (after wide s seeds b cs)
+  run-same [] a b t = (refl, t)
+  run-same (c ∷ cs) a b t =
+      let x = step-same a b t c in
+      let rest = run-same cs (step narrow s seeds a c .state) (step wide s seeds b c .state) (x .1) in
       (ap₂ (λ y ys. y ∷ ys) (x .0) (rest .0), rest .1)
 
 -- a list of calls keeps the rest of the counters
@@ -93,7 +95,7 @@ run-rest p s seeds first (c ∷ cs) st h =
 pub answers-as-before : AnswersAsBefore
 answers-as-before s seeds old new e cs =
     let new-state = changedState s seeds old new in
-    let run = run-twins s seeds (taken s seeds old new e .setting) cs old new-state (over-twins s seeds old new e) in
+    let run = run-same s seeds (taken s seeds old new e .setting) cs old new-state (over-same s seeds old new e) in
     let same = run .1 in
     record {
       replies = run .0;

@@ -1,20 +1,20 @@
 -- The refusals about a setting at the old and at the new limits, test by test.
-use mathlib.Core.Path.{_≡_, refl, sym, _∙_}
+use mathlib.Core.Path.{_≡_, refl, _∙_}
 use mathlib.Core.Logic.{_≢_}
 use mathlib.Core.List.{List}
 use mathlib.Core.Bool.{Bool, true, false, not, _&&_, _||_}
-use Prim.Native.Nat.{ℕ, _-_, _*_, _^_, _≤_, _<_}
+use Prim.Native.Nat.{ℕ, _-_, _*_, _≤_, _<_}
 use native.Mathlib.Omega.{arith}
-use lib.Dec.{T, ltb, not-T}
+use lib.Dec.{ltb, not-T}
 use borrow.Author.Tests.{le-leb, lt-ltb, le-ltb}
 use Rattle.rules.specs.declared.Setting.{Setting}
-use Rattle.rules.specs.Answers.{Refusal, none, outOfRange, shortWindow, badDelay, longHistory, refuse}
+use Rattle.rules.specs.Answers.{Refusal, outOfRange, shortWindow, badDelay, longHistory, refuse}
 use Rattle.rules.specs.Setting.{epochLength, historyLength, rowBound, fieldsInRange, seedsInRange, settingOf, settingRefusal}
 use Rattle.rules.specs.Policy.{limits01, limits02}
-use Rattle.rules.specs.Samples.{house, tableOne}
+use Rattle.rules.specs.Samples.{house}
 use Rattle.rules.proofs.Tests.{is-false}
 use Rattle.rules.proofs.Accept.{ranges, accepted}
-use Rattle.widths.specs.Claims.{TwoLimits, OldAccepted, greatestN, NewSettings}
+use Rattle.widths.specs.Claims.{TwoLimits, OldAccepted, NewSettings}
 
 -- what comes after 1, 2 and 3, where the tests of these do not hold
 after3 : (a b c : Bool) (x y : Refusal)

@@ -7,16 +7,12 @@ use Rattle.rules.specs.Answers.{none}
 use Rattle.rules.specs.State.{State, fresh}
 use Rattle.rules.specs.Policy.{limits01, narrow, wide}
 use Rattle.rules.specs.Calls.{Call, after}
-use Rattle.rules.specs.Moves.{Owned, renew, SameParts, Moves}
-use Rattle.rules.proofs.Step.{and-then, run-moves}
+use Rattle.rules.specs.Moves.{renew, SameParts, Moves}
+use Rattle.rules.proofs.Step.{and-then, owned, run-moves}
 use Rattle.rules.proofs.Demand.{spans-after, demand3-after}
 use Rattle.widths.specs.ChangeOver.{changeOverRefusal, changedState}
 use Rattle.widths.specs.Claims.{activationsOver, SpansOver, Demand3Over}
-use Rattle.widths.proofs.Answers.{over-twins}
-
--- the state with the setting's seeds in both filters
-abbrev pub owned : List ℕ → State → Owned
-owned seeds st = record { state = st; own = λ f. seeds }
+use Rattle.widths.proofs.Answers.{over-same}
 
 -- the change-over renews the memory
 pub over-moves : (s : Setting) (seeds : List ℕ) (old : State) (new : List ℕ) → changeOverRefusal s seeds old new ≡ none
@@ -25,7 +21,7 @@ over-moves s seeds old new e = record { moves = renew (changedState s seeds old 
   where
     same : SameParts s old (changedState s seeds old new)
     same =
-        let u = over-twins s seeds old new e .used in
+        let u = over-same s seeds old new e .used in
         record {
           head = u .head;
           countersLong = u .longToo .counters;
