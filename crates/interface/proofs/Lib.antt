@@ -1,2 +1,4 @@
 pub mod Heads
 pub mod Program
+pub mod Over
+pub mod Theorems

@@ -3,4 +3,5 @@ pub mod Differs
 pub mod Same
 pub mod Change
 pub mod Marks
+pub mod OldLimits
 pub mod Theorems

@@ -3,6 +3,7 @@ use Rattle.policies.specs.Claims.{Theorems}
 use Rattle.policies.proofs.Differs.{differs-at-first}
 use Rattle.policies.proofs.Change.{after-change, after-rounding, after-total, since-document01}
 use Rattle.policies.proofs.Marks.{written-before, other-mark-in-log, setting-refused}
+use Rattle.policies.proofs.OldLimits.{old-limits}
 
 pub theorems : Theorems
 theorems =
@@ -15,4 +16,5 @@ theorems =
       writtenBefore = written-before;
       otherMarkInLog = other-mark-in-log;
       settingRefused = setting-refused;
+      oldLimitsOnLogs = old-limits;
     }

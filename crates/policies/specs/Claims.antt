@@ -3,15 +3,15 @@ use mathlib.Core.Path.{_≡_}
 use mathlib.Core.Logic.{_≢_, _⊎_}
 use mathlib.Core.List.{List, [], _∷_, _++_}
 use mathlib.Core.Bool.{Bool, true, _&&_, cond}
-use Prim.Native.Nat.{ℕ, _+_, _-_, _/_, _≤_}
+use Prim.Native.Nat.{ℕ, _+_, _-_, _/_, _≤_, _<_}
 use lib.Dec.{ltb, eqb}
 use lib.ListN.{length}
 use Rattle.rules.specs.declared.Setting.{Setting}
 use Rattle.rules.specs.declared.Limits.{Limits}
-use Rattle.rules.specs.Answers.{Refusal, none}
-use Rattle.rules.specs.Setting.{settingRefusal}
+use Rattle.rules.specs.Answers.{Refusal, none, outOfRange, shortWindow, badDelay, longHistory}
+use Rattle.rules.specs.Setting.{historyLength, settingRefusal}
 use Rattle.rules.specs.Quota.{quotaDown, quotaEven, inFlightHere, inFlightTotal}
-use Rattle.rules.specs.Policy.{Policy, document01, narrow}
+use Rattle.rules.specs.Policy.{Policy, limits01, limits02, document01, narrow}
 use Rattle.rules.specs.Calls.{Reply, refused}
 use Rattle.profiles.specs.Former.{refusal01}
 use Rattle.log_format.specs.declared.Entry.{Entry}
@@ -139,6 +139,24 @@ SettingRefused p =
     → settingRefusal (p .limits) (settingOfLog bytes) (seedsOfLog bytes) ≢ none
     → verdict p bytes ≡ refusedAfter (model (settingRefusal (p .limits) (settingOfLog bytes) (seedsOfLog bytes))) 0
 
+-- ---- request a: logs and the limits
+
+-- "The checker program keeps the old limits on history and threshold, and prints 4 or 1 above them": `verdict narrow` is the checker's. An N above
+-- 32,768 is 1, whatever else is wrong with the setting; an H above 4,096 is 4, where the new width finds none of 1, 2 and 3. So every setting that
+-- only the new width accepts is 1 or 4.
+pub record OldLimits (bytes : List ℕ) : Type 0 where
+  pub threshold : 32768 < settingOfLog bytes .n → verdict narrow bytes ≡ refusedAfter (model outOfRange) 0
+  pub history : settingOfLog bytes .n ≤ 32768 → 4096 < historyLength (settingOfLog bytes)
+      → let r = settingRefusal limits02 (settingOfLog bytes) (seedsOfLog bytes) in
+      r ≢ outOfRange → r ≢ shortWindow → r ≢ badDelay → verdict narrow bytes ≡ refusedAfter (model longHistory) 0
+  pub onlyNew : settingRefusal limits02 (settingOfLog bytes) (seedsOfLog bytes) ≡ none
+      → settingRefusal limits01 (settingOfLog bytes) (seedsOfLog bytes) ≢ none
+      → (verdict narrow bytes ≡ refusedAfter (model outOfRange) 0) ⊎ (verdict narrow bytes ≡ refusedAfter (model longHistory) 0)
+
+-- of every log with a sound block 0
+abbrev pub OldLimitsOnLogs : Type 0
+OldLimitsOnLogs = (bytes : List ℕ) → 1 ≤ length bytes / 512 → blockRefusal (blockAt bytes 0) 0 0 ≡ sound → OldLimits bytes
+
 -- ---- all of it
 
 pub record Theorems : Type 0 where
@@ -150,3 +168,4 @@ pub record Theorems : Type 0 where
   pub writtenBefore : WrittenBefore
   pub otherMarkInLog : (p : Policy) → OtherMarkInLog p
   pub settingRefused : (p : Policy) → SettingRefused p
+  pub oldLimitsOnLogs : OldLimitsOnLogs

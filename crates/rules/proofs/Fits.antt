@@ -35,7 +35,7 @@ use Rattle.rules.proofs.Step.{opened-rules, by-refusal}
 -- ---- lists of cells below a bound
 
 module _ (m : ℕ) where
-  abbrev Below : List ℕ → Type 0
+  abbrev pub Below : List ℕ → Type 0
   Below cs = All (λ c. c < m) cs
 
   below-set : (l : List ℕ) (i v : ℕ) → v < m → Below l → Below (set l i v)
@@ -50,7 +50,7 @@ module _ (m : ℕ) where
       pick true c h = omega arith
       pick false c h = h
 
-  below-at : (l : List ℕ) (i : ℕ) → 0 < m → Below l → getD l i 0 < m
+  pub below-at : (l : List ℕ) (i : ℕ) → 0 < m → Below l → getD l i 0 < m
   below-at [] i h a = h
   below-at (c ∷ cs) zero h a = a .0
   below-at (c ∷ cs) (suc i) h a = below-at cs i h (a .1)

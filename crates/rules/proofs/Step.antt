@@ -129,7 +129,7 @@ answers p s seeds st t bank thread row a e =
 -- ---- moves one after the other
 
 module _ (s : Setting) where
-  no-moves : (x : Owned) → Moves s x x []
+  pub no-moves : (x : Owned) → Moves s x x []
   no-moves x = record { moves = []; allowed = tt; end = refl; makes = refl }
 
   both-allowed : (x : Owned) (vs ws : List Move) → AllAllowed s x vs → AllAllowed s (movedBy s x vs) ws → AllAllowed s x (vs ++ ws)
@@ -173,14 +173,14 @@ reported-same s st b th l =
       rows = λ i h. refl;
     }
 
-module _ (p : Policy) (s : Setting) (seeds : List ℕ) where
-  -- the state with the setting's seeds in both filters
-  abbrev pub owned : State → Owned
-  owned st = record { state = st; own = λ f. seeds }
+-- the state with the setting's seeds in both filters
+abbrev pub owned : List ℕ → State → Owned
+owned seeds st = record { state = st; own = λ f. seeds }
 
+module _ (p : Policy) (s : Setting) (seeds : List ℕ) where
   -- from a state, a call is moves to the state of its outcome, and its activations are those that its reply tells
   abbrev ByMoves : State → Call → Outcome → Type 0
-  ByMoves st c o = Moves s (owned st) (owned (o .state)) (activationOf c (o .reply))
+  ByMoves st c o = Moves s (owned seeds st) (owned seeds (o .state)) (activationOf c (o .reply))
 
   reseeds : (e e′ : ℕ) → T (seedsInRange seeds) → Reseeds e e′ (λ f. seeds) (λ f. seeds)
   reseeds e e′ fit = record { fit = λ f f2. fit; same = λ f f2 n. refl }
@@ -218,9 +218,9 @@ module _ (p : Policy) (s : Setting) (seeds : List ℕ) where
   performed-moves st (index t b th) k = record { moves = clock t (λ f. seeds) ∷ []; allowed = ((k .later, reseeds _ _ (k .setting .seeds-ok)), tt); end = refl; makes = refl }
 
   refused-moves : (st : State) (c : Call) (r : Refusal) → ByMoves st c (record { reply = refused r; state = st })
-  refused-moves st (request t b th x) r = no-moves s (owned st)
-  refused-moves st (done t b th) r = no-moves s (owned st)
-  refused-moves st (index t b th) r = no-moves s (owned st)
+  refused-moves st (request t b th x) r = no-moves s (owned seeds st)
+  refused-moves st (done t b th) r = no-moves s (owned seeds st)
+  refused-moves st (index t b th) r = no-moves s (owned seeds st)
 
   pub step-moves : (st : State) (c : Call) → ByMoves st c (step p s seeds st c)
   unfolding step
@@ -228,6 +228,6 @@ module _ (p : Policy) (s : Setting) (seeds : List ℕ) where
       by-refusal (ByMoves st c) (refusalOf (p .limits) s seeds st c) st (performed p s (λ f. seeds) st c)
       (λ e. performed-moves st c (call-taken (p .limits) s seeds st c e)) (refused-moves st c (refusalOf (p .limits) s seeds st c))
 
-  pub run-moves : (cs : List Call) (st : State) → Moves s (owned st) (owned (after p s seeds st cs)) (activations cs (replies p s seeds st cs))
-  run-moves [] st = no-moves s (owned st)
+  pub run-moves : (cs : List Call) (st : State) → Moves s (owned seeds st) (owned seeds (after p s seeds st cs)) (activations cs (replies p s seeds st cs))
+  run-moves [] st = no-moves s (owned seeds st)
   run-moves (c ∷ cs) st = and-then s (step-moves st c) (run-moves cs (step p s seeds st c .state))

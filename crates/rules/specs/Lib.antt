@@ -11,7 +11,6 @@ pub mod Policy
 pub mod Decision
 pub mod Tested
 pub mod Calls
-pub mod ChangeOver
 pub mod Moves
 pub mod Claims
 pub mod Samples

@@ -20,9 +20,12 @@ changeOverRefusal s seeds old new =
     (refuse (tooShort s old || ltb (length new) (countersUsed s)) shortBuffer
     (refuse (not (memoryOk s old)) badMemory none))
 
--- the new counters: the used part holds the old ones, as numbers, and the rest what it held
+-- the new counters, by place and content: the used part holds the old ones, as numbers, and the rest what it held
+abbrev pub takenCell : Setting → List ℕ → ℕ → ℕ → ℕ
+takenCell s old i c = cond (ltb i (countersUsed s)) (getD old i 0) c
+
 unfoldable pub takenOver : Setting → List ℕ → List ℕ → List ℕ
-takenOver s old new = mapCells (λ i c. cond (ltb i (countersUsed s)) (getD old i 0) c) new
+takenOver s old new = mapCells (takenCell s old) new
 
 -- What the change-over leaves: its return code and the new counters. All else is lent for reading: it moves no clock.
 pub record ChangedOver : Type 0 where
@@ -41,3 +44,7 @@ changeOver s seeds old new =
 -- the state with other filter counters: after the change-over, that of the new width
 abbrev pub withCounters : State → List ℕ → State
 withCounters st counters = state (st .head) counters (st .ticks) (st .rows) (st .threads)
+
+-- The state of the new width that a change-over leaves: only the counters are others, so head, history and thread counters are those that it found.
+abbrev pub changedState : Setting → List ℕ → State → List ℕ → State
+changedState s seeds old new = withCounters old (changeOver s seeds old new .counters)

@@ -1,0 +1,5 @@
+pub mod Limits
+pub mod ChangeOver
+pub mod Answers
+pub mod Lists
+pub mod Theorems

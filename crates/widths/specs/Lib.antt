@@ -1,0 +1,2 @@
+pub mod ChangeOver
+pub mod Claims
