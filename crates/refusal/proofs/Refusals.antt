@@ -30,7 +30,7 @@ pub orElse-nothing : (a : Refusal) → orElse a none ≡ a
 orElse-nothing a = first-refusal (λ x. x ≡ a) a none (λ e. sym e) (λ h. refl)
 
 -- a test and what comes after it, in two parts
-refuse-parts : (a : Refusal) (q : Bool) (r b : Refusal) → refusalNumber r ≢ 0 → orElse a (refuse q r b) ≡ orElse (orElse a (refuse q r none)) b
+pub refuse-parts : (a : Refusal) (q : Bool) (r b : Refusal) → refusalNumber r ≢ 0 → orElse a (refuse q r b) ≡ orElse (orElse a (refuse q r none)) b
 refuse-parts a q r b h = first-refusal (λ x. x ≡ orElse (orElse a (refuse q r none)) b) a (refuse q r b) (λ e. rw e (later q)) some
   where
     later : (q : Bool) → refuse q r b ≡ orElse (refuse q r none) b

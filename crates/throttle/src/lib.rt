@@ -1,5 +1,7 @@
-// The throttle for C, proved against the rules: set-up, request, done and index with 16-bit filter counters, and the same with 32-bit ones. Every call
-// returns 0 when it answered, and else the number of its refusal; a refused call changes nothing that was lent. Of buffers that overlap nothing is promised.
+// The throttle for C, proved against the rules: set-up, request, done and index with 16-bit filter counters, the same with 32-bit ones, and the change-over
+// from one to the other. Every call returns 0 when it answered, and else the number of its refusal; a refused call changes nothing that was lent. Of
+// buffers that overlap nothing is promised.
+use change_over::change_over;
 use lent_request::tested;
 use lent_request::told;
 use setting::narrow_limits;
@@ -10,6 +12,7 @@ ghost use mathlib.Core.List.{[]};
 ghost use Rattle.rules.specs.Setting.{settingOf};
 ghost use Rattle.rules.specs.Policy.{limits01, limits02, narrow, wide};
 ghost use Rattle.rules.specs.Calls.{request, done, index, setup, step};
+ghost use Rattle.widths.specs.ChangeOver.{changedOver, changeOver};
 ghost use Rattle.interface.specs.Left.{left, found, leaves};
 
 // For callers in Rattle that own their memory: set-up, request and done without the test of the whole history, and the numbers of an answer.
@@ -330,4 +333,23 @@ pub extern "C" fn throttle_wide_index(
     );
     wide_filter::turn(counters, x.banks, x.from, x.to);
     x.code
+}
+
+// The change-over of a saved state with 16-bit counters to 32-bit ones: the used part of the new counters becomes the old counters, as numbers.
+// It rules out: counters cut to 16 bits or taken over for one bank, the limits of the new width, memory that is not tested. All but the new counters is
+// lent for reading, so it moves no clock and clears nothing.
+#[no_mangle]
+pub extern "C" fn throttle_change_over(
+    setting: &[u64; 10],
+    seeds: &[u16],
+    head: &[u64; 22],
+    old: &[u16],
+    counters: &mut [u32],
+    ticks: &[u64],
+    rows: &[u32],
+    threads: &[u32],
+) -> u32
+    ensures { λ r. ⌜ changedOver r (now (counters .exit)) ≡ changeOver (settingOf (now (setting .entry))) (now (seeds .entry)) (found (now (head .entry)) (now (old .entry)) (now (ticks .entry)) (now (rows .entry)) (now (threads .entry))) (now (counters .entry)) ⌝ }
+{
+    change_over(setting, seeds, head, old, counters, ticks, rows, threads)
 }
