@@ -1,7 +1,8 @@
 /*
- * Which delays tD a setting of the throttle is accepted with. The setting is
- * that of throttle.h. Link with libplan.a (x86-64), alone or beside
- * libthrottle.a; it needs nothing beyond the C library.
+ * Which delays tD a setting of the throttle is accepted with, at each width of
+ * the filter counters. The setting is that of throttle.h. Link with libplan.a
+ * (x86-64), alone or beside libthrottle.a; it needs nothing beyond the C
+ * library.
  */
 #ifndef THROTTLE_PLAN_H
 #define THROTTLE_PLAN_H
@@ -17,8 +18,8 @@ extern "C" {
 enum { THROTTLE_DELAYS_OUT = 2 };
 
 /*
- * The setting as ten words (throttle_words of throttle.h); its delay, word 4,
- * plays no part, and neither do the seeds.
+ * For the calls with 16-bit counters. The setting as ten words (throttle_words
+ * of throttle.h); its delay, word 4, plays no part, and neither do the seeds.
  *
  * Returns 0 and writes the least and the greatest delay to out. Exactly the
  * delays from out[0] to out[1] are accepted, under the profile that the setting
@@ -36,6 +37,16 @@ enum { THROTTLE_DELAYS_OUT = 2 };
 THROTTLE_CHECKED
 uint32_t throttle_delays(const uint64_t setting[THROTTLE_LEAST THROTTLE_SETTING_WORDS],
                          uint64_t out[THROTTLE_LEAST THROTTLE_DELAYS_OUT]);
+
+/*
+ * The same for the calls with 32-bit counters: N is from 1 to 2^20, and 4 says
+ * that the smallest delay with B <= L needs more than 32,768 history cells.
+ * Where throttle_delays gives a least and a greatest delay, this gives the same
+ * least one, and a greatest one that is the same or longer.
+ */
+THROTTLE_CHECKED
+uint32_t throttle_wide_delays(const uint64_t setting[THROTTLE_LEAST THROTTLE_SETTING_WORDS],
+                              uint64_t out[THROTTLE_LEAST THROTTLE_DELAYS_OUT]);
 
 #ifdef __cplusplus
 }

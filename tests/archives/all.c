@@ -39,6 +39,19 @@ static const struct throttle_setting s = {
 static uint64_t setting[THROTTLE_SETTING_WORDS];
 static uint16_t seeds[THROTTLE_SEEDS];
 
+/* A chip with the limit 1,024: 1,024 x 140 ticks are too short for its delay, 8,192 x 140 are not. */
+static void check_weak_chip(void)
+{
+    static const struct throttle_setting weak = {
+        .w = 256000000, .trc = 185, .tfaw = 140, .n = 256, .td = 1, .l = 1024, .q = 64, .banks = 16, .threads = 8};
+    uint64_t words[THROTTLE_SETTING_WORDS], delays[THROTTLE_DELAYS_OUT] = {0, 0};
+    throttle_words(&weak, words);
+    check(throttle_delays(words, delays) == THROTTLE_LONG_HISTORY, "throttle_delays has delays for the limit 1,024");
+    check(delays[0] == 0 && delays[1] == 0, "a refused throttle_delays writes to out");
+    check(throttle_wide_delays(words, delays) == 0, "throttle_wide_delays refuses the limit 1,024");
+    check(delays[0] == 499815 && delays[1] == 1146880, "throttle_wide_delays does not answer 499815 and 1146880");
+}
+
 /* B = 5 + floor(35/tD) is at most 10 from tD = 6 on; W/2 is 20, and the small profile allows 256 x 4 ticks. */
 static void check_planner(void)
 {
@@ -48,6 +61,9 @@ static void check_planner(void)
         setting[THROTTLE_SETTING_WORDS - 1] = mark;
         check(throttle_delays(setting, delays) == 0, "throttle_delays refuses the setting");
         check(delays[0] == 6 && delays[1] == 20, "throttle_delays does not answer 6 and 20");
+        delays[0] = delays[1] = 0;
+        check(throttle_wide_delays(setting, delays) == 0, "throttle_wide_delays refuses the setting");
+        check(delays[0] == 6 && delays[1] == 20, "throttle_wide_delays does not answer 6 and 20");
     }
     setting[7] = THROTTLE_SMALL_BANKS + 1;
     check(throttle_delays(setting, delays) == THROTTLE_ABOVE_PROFILE, "throttle_delays has delays for five banks");
@@ -145,6 +161,7 @@ int main(int count, char **arguments)
     throttle_house_seeds(seeds);
     check(count == 2 && first_block(arguments[1], sample), "the sample log cannot be read");
     check_planner();
+    check_weak_chip();
     check_throttle(THROTTLE_PROFILE_LARGE);
     check_throttle(THROTTLE_PROFILE_SMALL);
     check_log(sample);

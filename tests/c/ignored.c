@@ -46,7 +46,10 @@ int main(void)
 #ifdef IGNORE_throttle_delays
     throttle_delays(setting, delays);
 #endif
+#ifdef IGNORE_throttle_wide_delays
+    throttle_wide_delays(setting, delays);
+#endif
     return throttle_setup(STATE) + throttle_request(STATE, 0, 0, 0, 5, out) + throttle_row(5, &row) +
            throttle_index(STATE, 0, 0, 0, index_out) + throttle_delays(setting, delays) +
-           throttle_log_seal(block, 1, 1) > 0;
+           throttle_wide_delays(setting, delays) + throttle_log_seal(block, 1, 1) > 0;
 }

@@ -17,11 +17,13 @@ enum {
     INDEX_SETTING,
     LOG_SETTING,
     PLAN_SETTING,
+    WIDE_PLAN_SETTING,
     WORDS,
     HEAD,
     REQUEST_OUT,
     INDEX_OUT,
     DELAYS_OUT,
+    WIDE_DELAYS_OUT,
     BLOCK
 };
 #ifndef SHORT
@@ -35,11 +37,13 @@ static uint64_t done_setting[LENGTH(DONE_SETTING, THROTTLE_SETTING_WORDS)];
 static uint64_t index_setting[LENGTH(INDEX_SETTING, THROTTLE_SETTING_WORDS)];
 static uint64_t log_setting[LENGTH(LOG_SETTING, THROTTLE_SETTING_WORDS)];
 static uint64_t plan_setting[LENGTH(PLAN_SETTING, THROTTLE_SETTING_WORDS)];
+static uint64_t wide_plan_setting[LENGTH(WIDE_PLAN_SETTING, THROTTLE_SETTING_WORDS)];
 static uint64_t words[LENGTH(WORDS, THROTTLE_SETTING_WORDS)];
 static uint64_t head[LENGTH(HEAD, THROTTLE_HEAD_CELLS)];
 static uint64_t request_out[LENGTH(REQUEST_OUT, THROTTLE_REQUEST_OUT)];
 static uint64_t index_out[LENGTH(INDEX_OUT, THROTTLE_INDEX_OUT)];
 static uint64_t delays_out[LENGTH(DELAYS_OUT, THROTTLE_DELAYS_OUT)];
+static uint64_t wide_delays_out[LENGTH(WIDE_DELAYS_OUT, THROTTLE_DELAYS_OUT)];
 static uint8_t block[LENGTH(BLOCK, THROTTLE_LOG_BLOCK)];
 
 static uint16_t seeds[THROTTLE_SEEDS], counters[2048];
@@ -55,5 +59,6 @@ uint32_t call_all(const struct throttle_setting *s)
     throttle_words(s, words);
     return throttle_setup(STATE(setup_setting)) + throttle_request(STATE(request_setting), 0, 0, 0, 5, request_out) +
            throttle_done(STATE(done_setting), 0, 0, 0) + throttle_index(STATE(index_setting), 0, 0, 0, index_out) +
-           throttle_log_start(log_setting, seeds, THROTTLE_SEEDS, block) + throttle_delays(plan_setting, delays_out);
+           throttle_log_start(log_setting, seeds, THROTTLE_SEEDS, block) + throttle_delays(plan_setting, delays_out) +
+           throttle_wide_delays(wide_plan_setting, wide_delays_out);
 }

@@ -1,4 +1,4 @@
--- The last threshold with a delay, what a delay costs, the limits that the code serves, and what the exported call leaves.
+-- The last threshold with a delay, the two widths and what a delay costs at each, the limits that the code serves, and what the exported calls leave.
 use mathlib.Core.Path.{_≡_}
 use mathlib.Core.List.{List, [], _∷_}
 use mathlib.Core.Bool.{Bool, true, false}
@@ -7,13 +7,15 @@ use Rattle.rules.specs.declared.Setting.{Setting}
 use Rattle.rules.specs.declared.Limits.{Limits}
 use Rattle.rules.specs.Setting.{historyLength, rowBound}
 use Rattle.rules.specs.State.{countersUsed, threadsUsed}
+use Rattle.rules.specs.Policy.{limits01, limits02}
 use Rattle.plan_delays.specs.declared.Plan.{Plan}
 use Rattle.plan_delays.specs.declared.Plan.the-variants.{Between, Nothing}
+use Rattle.plan.specs.declared.Width.{Width}
 use Rattle.plan.specs.declared.Cost.{Cost}
 use Rattle.plan_delays.specs.Delays.{withThreshold}
 use Rattle.plan_delays.specs.Answer.{delaysOf}
 
--- ---- the last threshold, and what a delay costs
+-- ---- the last threshold
 
 abbrev pub given : Plan → Bool
 given (Between least greatest) = true
@@ -29,13 +31,21 @@ pub record Last (m : Limits) (s : Setting) (n : ℕ) : Type 0 where
   pub has : 1 ≤ n → hasDelay m (withThreshold s n) ≡ true
   pub none-after : (more : ℕ) → n < more → more ≤ m .threshold → hasDelay m (withThreshold s more) ≡ false
 
--- H, B, and the bytes of the lent buffers: counters of 16 bits, history ticks of 64 and rows of 32, thread counters of 32
-unfoldable pub costOf : Setting → Cost
-costOf s =
+-- ---- the two widths, and what a delay costs
+
+-- "The history may reach 32,768 places, N may reach 2^20, and filter counters become 32 bits wide" (document 02, a); or the limits of document 01, with
+-- its counters of 16 bits
+abbrev pub widthOf : Bool → Width
+widthOf true = record { limits = limits02; counter = 4 }
+widthOf false = record { limits = limits01; counter = 2 }
+
+-- H, B, and the bytes of the lent buffers: counters of so many bytes each, history ticks of 8 and rows of 4, thread counters of 4
+unfoldable pub costOf : ℕ → Setting → Cost
+costOf counter s =
     record {
       history = historyLength s;
       bound = rowBound s;
-      bytes = 2 * countersUsed s + 12 * historyLength s + 4 * threadsUsed s;
+      bytes = counter * countersUsed s + 12 * historyLength s + 4 * threadsUsed s;
     }
 
 -- ---- the limits that the code serves
@@ -44,7 +54,11 @@ costOf s =
 abbrev pub Served : Limits → Type 0
 Served m = (m .threshold ≤ 2 ^ 20) × (m .history ≤ 32768)
 
--- ---- what the exported call leaves
+-- the same of a width, with the bytes of its counters
+abbrev pub Fits : Width → Type 0
+Fits w = Served (w .limits) × (w .counter ≤ 4)
+
+-- ---- what an exported call leaves
 
 -- the number that it returns, and the two words
 pub record Left : Type 0 where

@@ -1,5 +1,5 @@
 // Which delays tD a setting is accepted with: the least and the greatest, or the refusal that stands in the way.
-// The functions take the limits of a width, which an exported call fixes, and those of the profile that the setting names.
+// The functions take the limits of a width of the counters, which an exported call fixes, and those of the profile that the setting names.
 // The definitions that the contracts cite are in specs/ and in the crate `plan_delays`, with the statements of what they mean.
 use house_seeds::difference;
 use plan_delays::Plan;
@@ -7,10 +7,18 @@ ghost use mathlib.Core.Path.{_≡_};
 ghost use Prim.Native.Nat.{_+_, _-_, _*_, _^_, _≤_, _<_, min, max};
 ghost use Rattle.rules.specs.Answers.{refusalNumber};
 ghost use Rattle.rules.specs.Setting.{settingOf, rowBound};
-ghost use Rattle.rules.specs.Policy.{limits01};
+ghost use Rattle.rules.specs.Policy.{limits01, limits02};
 ghost use Rattle.plan_delays.specs.Delays.{withDelay, withThreshold, delayRefusal, AcceptedDelay};
 ghost use Rattle.plan_delays.specs.Answer.{smallestDelay, leastDelay, greatestDelay, delaysWithin, delaysAbove, delaysOf};
-ghost use Rattle.plan.specs.Plan.{hasDelay, Last, Served, costOf, left, leaves};
+ghost use Rattle.plan.specs.Plan.{hasDelay, Last, Served, Fits, widthOf, costOf, left, leaves};
+
+// A width of the filter counters.
+pub struct Width {
+    // The limits of its calls.
+    pub limits: rules::Limits,
+    // The bytes of a counter.
+    pub counter: u64,
+}
 
 // What a setting costs.
 pub struct Cost {
@@ -20,6 +28,22 @@ pub struct Cost {
     pub bound: u64,
     // The bytes of the counters, both history buffers and the thread counters.
     pub bytes: u64,
+}
+
+// 32-bit counters, or 16-bit ones.
+pub fn width_of(wide: bool) -> Width
+    ensures { λ r. ⌜ (r ≡ widthOf wide) × Fits r ⌝ }
+{
+    if wide {
+        return Width {
+            limits: setting::wide_limits(),
+            counter: 4,
+        };
+    }
+    Width {
+        limits: setting::narrow_limits(),
+        counter: 2,
+    }
 }
 
 // The setting with another delay.
@@ -174,22 +198,22 @@ fn row_bound(s: rules::Setting, td: u64) -> u64
     bursts + 1 + (s.w - 1 - bursts * s.trc) / td
 }
 
-// The bytes of the four buffers: 16-bit counters, 64-bit history ticks and 32-bit history rows, 32-bit thread counters.
-fn bytes(banks: u64, threads: u64, history: u64) -> u64
-    requires { ⌜ (banks ≤ 16) × (threads ≤ 32) × (history ≤ 32768) ⌝ }
-    ensures { λ r. ⌜ r ≡ 2 * (banks * 2048) + 12 * history + 4 * (banks * threads * 3) ⌝ }
+// The bytes of the four buffers: counters of so many bytes each, 64-bit history ticks and 32-bit history rows, 32-bit thread counters.
+fn bytes(counter: u64, banks: u64, threads: u64, history: u64) -> u64
+    requires { ⌜ (counter ≤ 4) × (banks ≤ 16) × (threads ≤ 32) × (history ≤ 32768) ⌝ }
+    ensures { λ r. ⌜ r ≡ counter * (banks * 2048) + 12 * history + 4 * (banks * threads * 3) ⌝ }
 {
-    2 * (banks * 2048) + 12 * history + 4 * (banks * threads * 3)
+    counter * (banks * 2048) + 12 * history + 4 * (banks * threads * 3)
 }
 
-// What the setting costs with a delay that is accepted: H, B, and the bytes of the four buffers.
-pub fn costs(m: rules::Limits, s: rules::Setting, td: u64) -> Cost
-    requires { ⌜ Served m × AcceptedDelay m s td ⌝ }
-    ensures { λ r. ⌜ r ≡ costOf (withDelay s td) ⌝ }
+// What the setting costs with a delay that is accepted at this width: H, B, and the bytes of the four buffers.
+pub fn costs(width: Width, s: rules::Setting, td: u64) -> Cost
+    requires { ⌜ Fits width × AcceptedDelay (width .limits) s td ⌝ }
+    ensures { λ r. ⌜ r ≡ costOf (width .counter) (withDelay s td) ⌝ }
 {
     let history = setting::history_length(with_delay(s, td)) as u64;
     let bound = row_bound(s, td);
-    let bytes = bytes(s.banks, s.threads, history);
+    let bytes = bytes(width.counter, s.banks, s.threads, history);
     Cost {
         history,
         bound,
@@ -197,15 +221,12 @@ pub fn costs(m: rules::Limits, s: rules::Setting, td: u64) -> Cost
     }
 }
 
-// The delays for C, with the limits of 16-bit counters: 0, and the least and the greatest delay in out; or the number of the refusal,
-// and out as it was.
-// It rules out: an end that is off by one, an interval that leaves out an accepted delay, a refusal where a delay is accepted, a delay that the
-// profile excludes.
-#[no_mangle]
-pub extern "C" fn throttle_delays(setting: &[u64; 10], out: &mut [u64; 2]) -> u32
-    ensures { λ r. ⌜ left r (now (out .exit)) ≡ leaves (delaysOf limits01 (settingOf (now (setting .entry)))) (now (out .entry)) ⌝ }
+// The delays for C, at the limits of a width: 0, and the least and the greatest delay in out; or the number of the refusal, and out as it was.
+fn write_delays(wide: bool, setting: &[u64; 10], out: &mut [u64; 2]) -> u32
+    ensures { λ r. ⌜ left r (now (out .exit)) ≡ leaves (delaysOf (widthOf wide .limits) (settingOf (now (setting .entry)))) (now (out .entry)) ⌝ }
 {
-    let answer = delays(setting::narrow_limits(), setting::load(setting));
+    let width = width_of(wide);
+    let answer = delays(width.limits, setting::load(setting));
     match answer {
         Plan::Between { least, greatest } => {
             *out = [least, greatest];
@@ -213,4 +234,22 @@ pub extern "C" fn throttle_delays(setting: &[u64; 10], out: &mut [u64; 2]) -> u3
         }
         Plan::Nothing { refusal } => refusal,
     }
+}
+
+// The delays of the calls with 16-bit counters.
+// It rules out: an end that is off by one, an interval that leaves out an accepted delay, a refusal where a delay is accepted, a delay that the
+// profile excludes, the limits of the other width.
+#[no_mangle]
+pub extern "C" fn throttle_delays(setting: &[u64; 10], out: &mut [u64; 2]) -> u32
+    ensures { λ r. ⌜ left r (now (out .exit)) ≡ leaves (delaysOf limits01 (settingOf (now (setting .entry)))) (now (out .entry)) ⌝ }
+{
+    write_delays(false, setting, out)
+}
+
+// The delays of the calls with 32-bit counters. It rules out the same.
+#[no_mangle]
+pub extern "C" fn throttle_wide_delays(setting: &[u64; 10], out: &mut [u64; 2]) -> u32
+    ensures { λ r. ⌜ left r (now (out .exit)) ≡ leaves (delaysOf limits02 (settingOf (now (setting .entry)))) (now (out .entry)) ⌝ }
+{
+    write_delays(true, setting, out)
 }

@@ -1,5 +1,5 @@
 // What is wrong with the arguments: a line on standard error for each fault, which begins with the name that the program was called by.
-// The ranges are those of document 01's table. Whoever calls the program prints its usage.
+// The ranges are those of document 01's table, and that of N is the width's. Whoever calls the program prints its usage.
 fn complain(text: &[u8]) {
     io::write_all(libc::STDERR_FILENO, text);
 }
@@ -55,8 +55,8 @@ fn is_window(w: u64) -> bool {
     true
 }
 
-// Every argument is in its range; the first that is not is reported.
-pub fn are_in_range(s: rules::Setting) -> bool {
+// Every argument is in its range at these limits; the first that is not is reported.
+pub fn are_in_range(limits: rules::Limits, s: rules::Setting) -> bool {
     if !is_window(s.w) {
         return false;
     }
@@ -69,6 +69,5 @@ pub fn are_in_range(s: rules::Setting) -> bool {
     if !is_within(4, s.l, 16777216) {
         return false;
     }
-    let limits = setting::narrow_limits();
     is_within(5, s.n, limits.threshold)
 }

@@ -1,6 +1,8 @@
-// The command line of the program plan_settings: its words as numbers, its option, and messages on what is wrong with them.
+// The command line of the program plan_settings: its words as numbers, its options, and messages on what is wrong with them.
 ghost use mathlib.Core.Path.{_≡_};
+ghost use Prim.Native.Nat.{_+_, _≤_};
 ghost use Rattle.plan_arguments.specs.Decimal.{numberOf, wrong as Decimal·wrong};
+ghost use Rattle.plan_arguments.specs.Options.{wordsOf};
 
 pub mod faults;
 
@@ -8,6 +10,16 @@ pub mod faults;
 pub struct Number {
     pub ok: bool,
     pub value: u64,
+}
+
+// The options before the first number.
+pub struct Options {
+    // How many words they are.
+    pub words: usize,
+    // The calls with 32-bit counters are meant.
+    pub wide: bool,
+    // The small card is meant.
+    pub small: bool,
 }
 
 fn wrong() -> Number
@@ -61,14 +73,34 @@ pub fn argument(i: usize) -> Number {
     read_word(&word[..n])
 }
 
-// Whether argument 1 is the option of the small profile.
-pub fn is_small() -> bool {
-    let mut word = [0u8; 8];
-    let n = os::arg(1, &mut word);
-    if os::errno() != 0 || n != 7 {
+// Whether argument i is this word. One of more than 8 bytes is none of the options.
+fn is_word(i: usize, word: &[u8]) -> bool {
+    let mut found = [0u8; 8];
+    let n = os::arg(i, &mut found);
+    if os::errno() != 0 {
         return false;
     }
-    let dashes = word[0] == b'-' && word[1] == b'-';
-    let first = word[2] == b's' && word[3] == b'm' && word[4] == b'a';
-    dashes && first && word[5] == b'l' && word[6] == b'l'
+    check::same(&found[..n], word)
+}
+
+// How many words an option is that is given or not.
+fn words(given: bool) -> usize
+    ensures { λ r. ⌜ (r ≡ wordsOf given) × (r ≤ 1) ⌝ }
+{
+    if given { 1 } else { 0 }
+}
+
+// The options of the command line, --wide before --small. It rules out a word that is taken for an option and sets none.
+pub fn read_options() -> Options
+    ensures { λ r. ⌜ (r .words ≡ wordsOf (r .wide) + wordsOf (r .small)) × (r .words ≤ 2) ⌝ }
+{
+    let wide = is_word(1, b"--wide");
+    let first = words(wide);
+    let small = is_word(1 + first, b"--small");
+    let second = words(small);
+    Options {
+        words: first + second,
+        wide,
+        small,
+    }
 }

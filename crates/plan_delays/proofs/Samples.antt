@@ -23,4 +23,12 @@ cases =
       small8192 = (refl, refl);
       small7145 = (refl, refl);
       small5 = (refl, refl);
+      quarter1024 = (refl, refl);
+      quarter512 = (refl, refl);
+      limit1024 = (refl, refl);
+      limit512 = (refl, refl);
+      wide2048-last = (refl, refl);
+      wide1024-last = (refl, refl);
+      wide512-last = (refl, refl);
+      wide226 = (refl, refl);
     }

@@ -62,6 +62,12 @@ any-limit m s l more td h k j =
     let top : l ≤ 2 ^ 24 = omega arith in
     simp (le-leb 1 l h, le-leb l 16777216 top, le-leb 1 more one, le-leb more 16777216 j)
 
+pub any-width : (m more : Limits) (s : Setting) → 1 ≤ s .n → s .n ≤ m .threshold → m .threshold ≤ more .threshold → fieldsInRange more s ≡ fieldsInRange m s
+unfolding fieldsInRange
+any-width m more s h k j =
+    let top : s .n ≤ more .threshold = omega arith in
+    simp (le-leb 1 (s .n) h, le-leb (s .n) (m .threshold) k, le-leb (s .n) (more .threshold) top)
+
 pub shape : (m : Limits) (s : Setting) (td : ℕ) → InRange td → delayRefusal m s td ≡ refuse (not (others m s)) outOfRange (refuse (crowded s) shortWindow (lateOf m s td))
 unfolding delayRefusal settingRefusal
 shape m s td h = simp (any-delay m s td h, seeds-ok, and-true (others m s))

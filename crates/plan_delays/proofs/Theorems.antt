@@ -4,7 +4,7 @@ use Rattle.plan_delays.proofs.Shape.{seeds-play-no-part}
 use Rattle.plan_delays.proofs.Answer.{right, delay-plays-no-part}
 use Rattle.plan_delays.proofs.Only.{only-one}
 use Rattle.plan_delays.proofs.Profiles.{sixteen}
-use Rattle.plan_delays.proofs.Trade.{longer-delay, nested, grows, up-to-last, larger-limit, flat, decided}
+use Rattle.plan_delays.proofs.Trade.{longer-delay, nested, grows, up-to-last, larger-limit, wider-limits, flat, decided}
 
 pub theorems : Theorems
 theorems =
@@ -19,6 +19,7 @@ theorems =
       grows = grows;
       upToLast = up-to-last;
       largerLimit = larger-limit;
+      widerLimits = wider-limits;
       flat = flat;
       decided = decided;
     }

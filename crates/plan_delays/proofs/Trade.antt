@@ -1,4 +1,4 @@
--- The trade between N and tD: a smaller N keeps every accepted delay, so the least delay never falls as N grows.
+-- The trade between N and tD: a smaller N keeps every accepted delay, so the least delay never falls as N grows. A larger L and wider limits keep them too.
 use mathlib.Core.Path.{_≡_, refl, sym, subst, _∙_}
 use mathlib.Core.Bool.{Bool, true, false, _&&_, cond}
 use Prim.Native.Nat.{ℕ, _-_, _*_, _^_, _≤_, _<_}
@@ -15,9 +15,9 @@ use Rattle.plan_delays.specs.declared.Plan.{Plan}
 use Rattle.plan_delays.specs.declared.Plan.the-variants.{Between, Nothing}
 use Rattle.plan_delays.specs.Delays.{withDelay, withThreshold, withLimit, someSeeds, delayRefusal, AcceptedDelay, Ends, Says}
 use Rattle.plan_delays.specs.Answer.{smallestDelay, leastDelay, greatestDelay, ownGreatest, delaysWithin, delaysAbove, delaysOf}
-use Rattle.plan_delays.specs.Claims.{LongerDelay, Nested, Grows, UpToLast, LargerLimit, Flat, Decided}
+use Rattle.plan_delays.specs.Claims.{LongerDelay, Nested, Grows, UpToLast, LargerLimit, WiderLimits, Flat, Decided}
 use Rattle.plan_delays.proofs.Numbers.{quotient-falls, ceil-grows, bound-grows, room-kept, smallest-below, smallest-above}
-use Rattle.plan_delays.proofs.Shape.{any-threshold, any-limit, by-profile, within-own, accepted-fields}
+use Rattle.plan_delays.proofs.Shape.{any-threshold, any-limit, any-width, by-profile, within-own, accepted-fields}
 use Rattle.plan_delays.proofs.Interval.{accepted-delay, inside}
 use Rattle.plan_delays.proofs.Answer.{right}
 
@@ -99,6 +99,14 @@ not-below m s a b td x e = go (ltb td a) refl
     go true k = absurd (x .below td (ltb-true td a k) e)
     go false k = ltb-false td a k
 
+-- nor above the greatest
+not-above : (m : Limits) (s : Setting) (a b td : ℕ) → Ends m s a b → AcceptedDelay m s td → td ≤ b
+not-above m s a b td x e = go (ltb b td) refl
+  where
+    go : (t : Bool) → ltb b td ≡ t → td ≤ b
+    go true k = absurd (x .above td (ltb-true b td k) e)
+    go false k = ltb-false b td k
+
 pub grows : Grows
 grows m s n more a b c d h p q =
     let x : Ends m (withThreshold s n) a b = says m (withThreshold s n) (Between a b) p in
@@ -112,6 +120,32 @@ pub up-to-last : UpToLast
 up-to-last m s n more r low h p c d q =
     let y : Ends m (withThreshold s more) c d = says m (withThreshold s more) (Between c d) q in
     says m (withThreshold s n) (Nothing r) p .0 c (nested m s n more c low h (y .least-accepted))
+
+-- ---- at wider limits
+
+wider : (m more : Limits) (s : Setting) (td : ℕ) → m .threshold ≤ more .threshold → m .history ≤ more .history → AcceptedDelay m s td → AcceptedDelay more s td
+unfolding delayRefusal
+wider m more s td n h e =
+    let x = withDelay s td in
+    let a : Accepted m x someSeeds = accepted-delay m s td e in
+    let r = a .ranges in
+    by-profile more x (any-width m more x (r .n-low) (r .n-high) n ∙ accepted-fields m x e) (a .room) (a .gaps) (a .delay) (le-trans (a .short) h) (a .bound)
+    ∙ simp (within-own s td (a .banks-own) (a .history-own))
+
+pub wider-limits : WiderLimits
+wider-limits m more s a b n h e = go (delaysOf more s) refl
+  where
+    x : Ends m s a b
+    x = says m s (Between a b) e
+
+    go : (p : Plan) → delaysOf more s ≡ p → (c : ℕ) × (b ≤ c) × (delaysOf more s ≡ Between a c)
+    go (Nothing r) q = absurd (says more s (Nothing r) q .0 a (wider m more s a n h (x .least-accepted)))
+    go (Between c d) q =
+        let least : c ≡ a = ends-are more s c d q .0 ∙ sym (ends-are m s a b e .0) in (
+          d,
+          not-above more s c d b (says more s (Between c d) q) (wider m more s b n h (x .greatest-accepted)),
+          subst (λ (z : ℕ). delaysOf more s ≡ Between z d) least q,
+        )
 
 -- ---- where it grows
 

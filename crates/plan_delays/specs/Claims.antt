@@ -76,6 +76,12 @@ abbrev pub LargerLimit : Type 0
 LargerLimit =
     (m : Limits) (s : Setting) (l more td : ℕ) → l ≤ more → more ≤ 2 ^ 24 → AcceptedDelay m (withLimit s l) td → AcceptedDelay m (withLimit s more) td
 
+-- At limits that are no smaller, as those of the wider counters, a setting that has delays has the same least one, and its greatest is no smaller.
+abbrev pub WiderLimits : Type 0
+WiderLimits =
+    (m more : Limits) (s : Setting) (a b : ℕ) → m .threshold ≤ more .threshold → m .history ≤ more .history
+    → delaysOf m s ≡ Between a b → (c : ℕ) × (b ≤ c) × (delaysOf more s ≡ Between a c)
+
 -- Where L + 1 activations, each tRC after the one before, do not fit in W ticks, the least delay is tRC for every threshold: it does not grow.
 abbrev pub Flat : Type 0
 Flat = (m : Limits) (s : Setting) (a b : ℕ) → s .w - 1 < s .trc * s .l → delaysOf m s ≡ Between a b → a ≡ s .trc
@@ -95,5 +101,6 @@ pub record Theorems : Type 0 where
   pub grows : Grows
   pub upToLast : UpToLast
   pub largerLimit : LargerLimit
+  pub widerLimits : WiderLimits
   pub flat : Flat
   pub decided : Decided

@@ -1,15 +1,17 @@
-// plan_settings [--small] W TRC TFAW L [N], in whole ticks: the least and the greatest delay tD that is accepted, over thresholds N or for
-// the one given, with H, B and the bytes of the lent buffers, under the large profile or the small one. The table goes to standard
-// output, an error to standard error.
+// plan_settings [--wide] [--small] W TRC TFAW L [N], in whole ticks: the least and the greatest delay tD that is accepted, over thresholds N
+// or for the one given, with H, B and the bytes of the lent buffers, at the limits of 16-bit or of 32-bit counters, under the large profile
+// or the small one. The table goes to standard output, an error to standard error.
+use plan::Width;
 use plan_arguments::Number;
 use plan_arguments::argument;
 use plan_arguments::faults;
-use plan_arguments::is_small;
+use plan_arguments::read_options;
 ghost use Prim.Native.Nat.{_≤_};
+ghost use Rattle.plan.specs.Plan.{Fits};
 
 // Number i of the five, which is reported where it is none; options is the count of words before the first.
 fn field(options: usize, i: usize) -> Number
-    requires { ⌜ (options ≤ 1) × (i ≤ 5) ⌝ }
+    requires { ⌜ (options ≤ 2) × (i ≤ 5) ⌝ }
 {
     let n = argument(options + i);
     if !n.ok {
@@ -20,7 +22,7 @@ fn field(options: usize, i: usize) -> Number
 
 // The threshold that is given, or 1 where none is.
 fn threshold(options: usize, is_one: bool) -> Number
-    requires { ⌜ options ≤ 1 ⌝ }
+    requires { ⌜ options ≤ 2 ⌝ }
 {
     if is_one {
         return field(options, 5);
@@ -29,7 +31,9 @@ fn threshold(options: usize, is_one: bool) -> Number
 }
 
 // The setting is printed for the most banks of its profile and 8 threads. Its delay and Q play no part.
-fn answer(w: u64, trc: u64, tfaw: u64, n: u64, l: u64, mark: u64, is_one: bool) {
+fn answer(w: u64, trc: u64, tfaw: u64, n: u64, l: u64, width: Width, mark: u64, is_one: bool)
+    requires { ⌜ Fits width ⌝ }
+{
     let card = setting::profile(mark);
     let s = rules::Setting {
         w,
@@ -43,19 +47,19 @@ fn answer(w: u64, trc: u64, tfaw: u64, n: u64, l: u64, mark: u64, is_one: bool) 
         threads: 8,
         profile: mark,
     };
-    if !faults::are_in_range(s) {
+    if !faults::are_in_range(width.limits, s) {
         return;
     }
     if is_one {
-        plan_table::print_one(s);
+        plan_table::print_one(width, s);
     } else {
-        plan_table::print_table(s);
+        plan_table::print_table(width, s);
     }
 }
 
-// The table of the profile with this mark, from the words behind the options.
-fn plan(options: usize, mark: u64, is_one: bool)
-    requires { ⌜ options ≤ 1 ⌝ }
+// The table at this width, of the profile with this mark, from the words behind the options.
+fn plan(options: usize, width: Width, mark: u64, is_one: bool)
+    requires { ⌜ (options ≤ 2) × Fits width ⌝ }
 {
     let w = field(options, 1);
     let trc = field(options, 2);
@@ -69,6 +73,7 @@ fn plan(options: usize, mark: u64, is_one: bool)
             tfaw.value,
             n.value,
             l.value,
+            width,
             mark,
             is_one,
         );
@@ -76,21 +81,23 @@ fn plan(options: usize, mark: u64, is_one: bool)
 }
 
 // The count of the arguments is tested; options is that of the words before the first number.
-fn start(options: usize, mark: u64)
-    requires { ⌜ options ≤ 1 ⌝ }
+fn start(options: usize, width: Width, mark: u64)
+    requires { ⌜ (options ≤ 2) × Fits width ⌝ }
 {
     let count = os::arg_count();
     if count < 5 + options || count > 6 + options {
         faults::report_count();
         return;
     }
-    plan(options, mark, count == 6 + options);
+    plan(options, width, mark, count == 6 + options);
 }
 
 fn main() {
-    if is_small() {
-        start(1, 1);
+    let given = read_options();
+    let width = plan::width_of(given.wide);
+    if given.small {
+        start(given.words, width, 1);
     } else {
-        start(0, 0);
+        start(given.words, width, 0);
     }
 }

@@ -1,7 +1,8 @@
 // The table that the program plan_settings prints: a line for each threshold, and the lines below it. What it prints of a threshold is
-// what the proved functions of the crate `plan` answer.
-ghost use Prim.Native.Nat.{_≤_};
-ghost use Rattle.rules.specs.Policy.{limits01};
+// what the proved functions of the crate `plan` answer, at a width of the counters.
+use plan::Width;
+ghost use Prim.Native.Nat.{_^_, _≤_};
+ghost use Rattle.plan.specs.Plan.{Served, Fits};
 use crate::text::print;
 use crate::text::print_cell;
 use crate::text::print_nanoseconds;
@@ -9,7 +10,7 @@ use crate::text::print_number;
 
 mod text;
 
-fn print_head(s: rules::Setting) {
+fn print_head(width: Width, s: rules::Setting) {
     print(b"W ");
     print_number(s.w);
     print(b", tRC ");
@@ -18,6 +19,9 @@ fn print_head(s: rules::Setting) {
     print_number(s.tfaw);
     print(b", L ");
     print_number(s.l);
+    if width.counter == 4 {
+        print(b", 32-bit counters");
+    }
     if s.profile == 1 {
         print(b", small profile");
     }
@@ -37,8 +41,7 @@ fn print_places(limit: u64) {
     print(b" places\n");
 }
 
-fn print_history_limit() {
-    let limits = setting::narrow_limits();
+fn print_history_limit(limits: rules::Limits) {
     print(b": the smallest delay with B at most L");
     print_places(limits.history);
 }
@@ -50,28 +53,29 @@ fn print_profile_limit(mark: u64) {
     print_places(card.history);
 }
 
-// Why no delay is accepted under the profile with this mark, by the number of the refusal.
-fn print_reason(refusal: u32, mark: u64) {
+// Why no delay is accepted at these limits under the profile with this mark, by the number of the refusal.
+fn print_reason(refusal: u32, limits: rules::Limits, mark: u64) {
     print(b"refusal ");
     print_number(refusal as u64);
     match refusal {
         1 => print(b": a field is out of its range\n"),
         2 => print(b": W - 1 is below 2 x N x tRC, two bursts of N do not fit in the window\n"),
         3 => print(b": the smallest delay with B at most L is below tRC or above W / 2\n"),
-        4 => print_history_limit(),
+        4 => print_history_limit(limits),
         16 => print_profile_limit(mark),
         _ => print(b": B is above L with every delay from 1 to 2^29\n"),
     }
 }
 
 // The line of the setting's threshold.
-fn print_line(s: rules::Setting) {
+fn print_line(width: Width, s: rules::Setting)
+    requires { ⌜ Fits width ⌝ }
+{
     print_cell(s.n);
-    let m = setting::narrow_limits();
-    let p = plan::delays(m, s);
+    let p = plan::delays(width.limits, s);
     match p {
         plan_delays::Plan::Between { least, greatest } => {
-            let c = plan::costs(m, s, least);
+            let c = plan::costs(width, s, least);
             print_cell(least);
             print_nanoseconds(least);
             print_cell(c.history);
@@ -82,13 +86,15 @@ fn print_line(s: rules::Setting) {
         }
         plan_delays::Plan::Nothing { refusal } => {
             print(b" has no delay: ");
-            print_reason(refusal, s.profile);
+            print_reason(refusal, width.limits, s.profile);
         }
     }
 }
 
-fn print_threshold(s: rules::Setting, n: u64) {
-    print_line(plan::with_threshold(s, n));
+fn print_threshold(width: Width, s: rules::Setting, n: u64)
+    requires { ⌜ Fits width ⌝ }
+{
+    print_line(width, plan::with_threshold(s, n));
 }
 
 fn print_trade() {
@@ -101,41 +107,46 @@ fn print_trade() {
 }
 
 // The one threshold that is given.
-pub fn print_one(s: rules::Setting) {
-    print_head(s);
-    print_line(s);
+pub fn print_one(width: Width, s: rules::Setting)
+    requires { ⌜ Fits width ⌝ }
+{
+    print_head(width, s);
+    print_line(width, s);
     print_trade();
 }
 
 // The powers of two below the last threshold that has a delay.
-fn print_powers(s: rules::Setting, last: u64)
-    requires { ⌜ last ≤ limits01 .threshold ⌝ }
+fn print_powers(width: Width, s: rules::Setting, last: u64)
+    requires { ⌜ Fits width × (last ≤ 2 ^ 20) ⌝ }
 {
     let mut n: u64 = 1;
     while n < last {
-        print_threshold(s, n);
+        print_threshold(width, s, n);
         n = 2 * n;
     }
 }
 
 // The last threshold that has a delay.
-fn last_threshold(s: rules::Setting) -> u64
-    ensures { λ r. ⌜ r ≤ limits01 .threshold ⌝ }
+fn last_threshold(limits: rules::Limits, s: rules::Setting) -> u64
+    requires { ⌜ Served limits ⌝ }
+    ensures { λ r. ⌜ r ≤ limits .threshold ⌝ }
 {
-    plan::last_threshold(setting::narrow_limits(), s)
+    plan::last_threshold(limits, s)
 }
 
 // The powers of two, the last threshold that has a delay, and the one after it, which has none.
-pub fn print_table(s: rules::Setting) {
-    print_head(s);
-    let last = last_threshold(s);
-    print_powers(s, last);
+pub fn print_table(width: Width, s: rules::Setting)
+    requires { ⌜ Fits width ⌝ }
+{
+    print_head(width, s);
+    let limits = width.limits;
+    let last = last_threshold(limits, s);
+    print_powers(width, s, last);
     if last > 0 {
-        print_threshold(s, last);
+        print_threshold(width, s, last);
     }
-    let limits = setting::narrow_limits();
     if last < limits.threshold {
-        print_threshold(s, last + 1);
+        print_threshold(width, s, last + 1);
         print(b"             and no larger N has one.\n");
     }
     print_trade();

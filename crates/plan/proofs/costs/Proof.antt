@@ -15,8 +15,8 @@ use Rattle.plan.proofs.costs.Tie as tie
 abbrev delayed : tie.Start → Setting
 delayed c = withDelay (c .args .s) (c .args .td)
 
-ok : (c : tie.Start) → Accepted (c .args .m) (delayed c) someSeeds
-ok c = accepted-delay (c .args .m) (c .args .s) (c .args .td) (c .pre .1)
+ok : (c : tie.Start) → Accepted (c .args .width .limits) (delayed c) someSeeds
+ok c = accepted-delay (c .args .width .limits) (c .args .s) (c .args .td) (c .pre .1)
 
 history-is : (c : tie.After-history-length) → c .history-length .result ≡ historyLength (delayed (c .before .before))
 history-is c = c .history-length .ensures ∙ ap historyLength (c .before .with-delay .ensures)
@@ -38,8 +38,8 @@ bytes-requires c κs =
     let start = c .before .before .before in
     let a = ok start in
     let short = a .short in
-    let served = start .pre .0 in
-    (a .ranges .banks-high, a .ranges .threads-high, rw (history-is (c .before)) (omega arith))
+    let fits = start .pre .0 in
+    (omega arith, a .ranges .banks-high, a .ranges .threads-high, rw (history-is (c .before)) (omega arith))
 
 returns : tie.Need-returns
 unfolding costOf

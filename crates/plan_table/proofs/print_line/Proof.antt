@@ -1,6 +1,5 @@
 -- `print_line`: the least delay of an answer is accepted, so its costs can be asked for.
 use mathlib.Core.Path.{sym, _∙_}
-use Rattle.plan.proofs.Served.{narrow-served}
 use Rattle.plan.proofs.Lasting.{least-accepted}
 use borrow.Author.Needs.{needs}
 use Rattle.plan_table.proofs.print_line.Statement.{statement}
@@ -9,11 +8,8 @@ use Rattle.plan_table.proofs.print_line.Tie as tie
 print-cell-requires : tie.Need-print-cell-requires
 print-cell-requires c κs = search needs
 
-narrow-limits-requires : tie.Need-narrow-limits-requires
-narrow-limits-requires c κs = search needs
-
 delays-requires : tie.Need-delays-requires
-delays-requires c κs = narrow-served _ (c .narrow-limits .ensures)
+delays-requires c κs = search needs
 
 enum-known-p : tie.Need-enum-known-p
 enum-known-p c = search needs
@@ -21,7 +17,7 @@ enum-known-p c = search needs
 costs-requires : tie.Need-costs-requires
 costs-requires c κs =
     let answered = c .before .before .before in
-    (narrow-served _ (answered .before .narrow-limits .ensures), least-accepted _ _ _ _ (sym (answered .delays .ensures) ∙ c .before .p .given .1))
+    (answered .before .before .pre, least-accepted _ _ _ _ (sym (answered .delays .ensures) ∙ c .before .p .given .1))
 
 print-cell-requires-2 : tie.Need-print-cell-requires-2
 print-cell-requires-2 c κs = search needs
@@ -70,7 +66,6 @@ print-line-spec =
     tie.close
     (tie.spec
     print-cell-requires
-    narrow-limits-requires
     delays-requires
     enum-known-p
     costs-requires

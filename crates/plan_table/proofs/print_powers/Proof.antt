@@ -1,14 +1,14 @@
 -- `print_powers`: the threshold doubles up to the last one.
-use Prim.Native.Nat.{_-_, _≤_}
+use Prim.Native.Nat.{_-_, _^_, _≤_}
 use borrow.Author.Needs.{needs}
 use Rattle.plan_table.proofs.print_powers.Statement.{statement}
 use Rattle.plan_table.proofs.print_powers.Tie as tie
 
 abbrev Inv-loop : tie.InvT-loop
-Inv-loop s last n₀ n = (1 ≤ n) × (n ≤ 65536)
+Inv-loop width s last n₀ n = (1 ≤ n) × (n ≤ 2 ^ 21)
 
 abbrev μ-loop : tie.MeasureT-loop
-μ-loop s last n₀ n = last - n
+μ-loop width s last n₀ n = last - n
 
 loop-holds : tie.Need-loop-holds Inv-loop μ-loop
 loop-holds c = search needs
