@@ -1,7 +1,7 @@
 /*
- * The throttle's four calls in plain C, for comparison in the benchmark. It
- * makes the same tests as the library in every call and writes the same cells,
- * for any contents of the memory. See baseline.h for the names.
+ * The throttle's four calls in plain C, for comparison in the benchmark, at
+ * either width. It makes the same tests as the library in every call and writes
+ * the same cells, for any contents of the memory. See baseline.h for the names.
  */
 #include "baseline.h"
 #include "baseline_filter.h"
@@ -40,7 +40,7 @@ static int within(uint64_t x, uint64_t low, uint64_t high)
 static int fields_in_range(const uint64_t s[THROTTLE_SETTING_WORDS])
 {
     return within(s[0], 2, 1u << 30) && s[0] % 2 == 0 && within(s[1], 1, 65535) &&
-           within(s[2], 1, 65535) && within(s[3], 1, 32768) && within(s[4], 1, 1u << 29) &&
+           within(s[2], 1, 65535) && within(s[3], 1, BASE_MOST_N) && within(s[4], 1, 1u << 29) &&
            within(s[5], 1, 1u << 24) && within(s[6], 1, 255) && within(s[7], 1, 16) &&
            within(s[8], 1, 32) && s[9] <= THROTTLE_PROFILE_SMALL;
 }
@@ -71,15 +71,15 @@ static uint32_t setting_refusal(const uint64_t s[THROTTLE_SETTING_WORDS], const 
         return 1;
     uint32_t w = (uint32_t)s[0], trc = (uint32_t)s[1], tfaw = (uint32_t)s[2];
     uint32_t n = (uint32_t)s[3], td = (uint32_t)s[4], l = (uint32_t)s[5];
-    uint32_t burst = 2 * n * trc;
+    uint64_t burst = 2 * (uint64_t)n * trc;
     if (w - 1 < burst)
         return 2;
     if (td < trc || td > w / 2)
         return 3;
     uint32_t history = 4 * ((td + tfaw - 1) / tfaw);
-    if (history > 4096)
+    if (history > BASE_MOST_HISTORY)
         return 4;
-    if (2 * n + 1 + (w - 1 - burst) / td > l)
+    if (2 * n + 1 + (w - 1 - (uint32_t)burst) / td > l)
         return 5;
     if (above_profile(s, history))
         return 16;
@@ -151,7 +151,7 @@ static uint32_t call_refusal(BASE_STATE, uint64_t tick, uint64_t bank, uint64_t 
 }
 
 /* Clears a filter and the index counters of its number, in all banks. */
-static void clear_filter(const struct rules *r, uint16_t *counters, uint32_t *threads,
+static void clear_filter(const struct rules *r, base_counter *counters, uint32_t *threads,
                          size_t filter)
 {
     for (size_t b = 0; b < r->banks; b++)
@@ -161,7 +161,7 @@ static void clear_filter(const struct rules *r, uint16_t *counters, uint32_t *th
 }
 
 /* Clears both filters and all index counters. */
-static void clear_filters(const struct rules *r, uint16_t *counters, uint32_t *threads)
+static void clear_filters(const struct rules *r, base_counter *counters, uint32_t *threads)
 {
     memset(counters, 0, (size_t)r->banks * BANK_COUNTERS * sizeof *counters);
     for (size_t i = 0; i < (size_t)r->banks * r->threads; i++)
@@ -170,7 +170,7 @@ static void clear_filters(const struct rules *r, uint16_t *counters, uint32_t *t
 
 /* Moves the clock to the tick, clears what its epoch asks for, and returns that epoch. */
 static uint64_t move_clock(const struct rules *r, uint64_t head[THROTTLE_HEAD_CELLS],
-                           uint16_t *counters, uint32_t *threads, uint64_t tick)
+                           base_counter *counters, uint32_t *threads, uint64_t tick)
 {
     uint64_t old = head[0] / r->epoch, now = old;
     head[0] = tick;
@@ -259,8 +259,9 @@ static uint64_t in_flight(const struct rules *r, const uint32_t *threads, size_t
  * the openings left of the row by its counters in the active filter.
  */
 static uint64_t activate(const struct rules *r, uint64_t head[THROTTLE_HEAD_CELLS],
-                         uint16_t *bank_counters, size_t active, uint64_t *ticks, uint32_t *rows,
-                         uint32_t *cell, uint32_t word, const uint16_t places[4], int black)
+                         base_counter *bank_counters, size_t active, uint64_t *ticks,
+                         uint32_t *rows, uint32_t *cell, uint32_t word, const uint16_t places[4],
+                         int black)
 {
     uint64_t stored = head[0] + 1;
     size_t place = head[1];
@@ -323,7 +324,7 @@ uint32_t BASE_NAME(BASE_PREFIX, request)(BASE_STATE, uint64_t tick, uint64_t ban
         return 0;
     }
     uint32_t word = (uint32_t)bank << 16 | row;
-    uint16_t *filters = counters + bank * BANK_COUNTERS;
+    base_counter *filters = counters + bank * BANK_COUNTERS;
     hash(seeds, row, places);
     int black = estimate(filters + active * FILTER, places) >= r.n;
     int black_next = estimate(filters + (1 - active) * FILTER, places) >= r.n;

@@ -6,7 +6,8 @@
  * (base if none is given). So one program can hold several builds of it, each
  * declared by BASE_DECLARE(PREFIX). With -DBASE_PREFIX=throttle it stands in
  * for the library. With -DBASE_COMPARES it has the other form of the test of the
- * history, see baseline_history.h.
+ * history, see baseline_history.h. With -DBASE_WIDE it is of the new width, with
+ * the calls of throttle_wide.h; all parts of a program have the same width.
  */
 #ifndef BASELINE_H
 #define BASELINE_H
@@ -16,11 +17,20 @@
 #include <stddef.h>
 #include <stdint.h>
 
+/* the filter counters, and the greatest N and H that go with their width */
+#ifdef BASE_WIDE
+typedef uint32_t base_counter;
+enum { BASE_MOST_N = THROTTLE_WIDE_MOST_N, BASE_MOST_HISTORY = THROTTLE_WIDE_MOST_HISTORY_CELLS };
+#else
+typedef uint16_t base_counter;
+enum { BASE_MOST_N = THROTTLE_MOST_N, BASE_MOST_HISTORY = THROTTLE_MOST_HISTORY_CELLS };
+#endif
+
 /* setting, seeds, head and the four buffers, which every call takes first */
 #define BASE_STATE                                                                          \
     const uint64_t setting[THROTTLE_LEAST THROTTLE_SETTING_WORDS], const uint16_t *seeds,   \
         size_t seeds_len, uint64_t head[THROTTLE_LEAST THROTTLE_HEAD_CELLS],                \
-        uint16_t *counters, size_t counters_len, uint64_t *ticks, size_t ticks_len,         \
+        base_counter *counters, size_t counters_len, uint64_t *ticks, size_t ticks_len,     \
         uint32_t *rows, size_t rows_len, uint32_t *threads, size_t threads_len
 
 /* the same, handed on to another function */

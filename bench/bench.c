@@ -1,7 +1,9 @@
 /*
  * Measures the library against builds of the plain C baseline, all in one
- * process. Arguments name the parts to run; without any, all are run.
+ * process and of one width. Arguments name the parts to run; without any, all
+ * are run.
  */
+#include "harness.h"
 #include "parts.h"
 
 #include <stdio.h>
@@ -27,6 +29,7 @@ enum { PARTS = sizeof parts / sizeof *parts };
 
 int main(int argc, char **argv)
 {
+    printf("The calls have filter counters of %zu bits.\n\n", 8 * sizeof(base_counter));
     for (int a = 1; a < argc; a++) {
         size_t p = 0;
         while (p < PARTS && strcmp(argv[a], parts[p].name) != 0)

@@ -8,14 +8,16 @@
 
 #include <stdio.h>
 
-enum { PASSES = 4, ROUNDS = 10, LENGTHS = 3, SIZES = 5 };
+/* The last length is of the new width alone. */
+enum { PASSES = 4, ROUNDS = 10, LENGTHS = BASE_MOST_HISTORY < 32768 ? 3 : 4, SIZES = 5 };
 
-static const size_t lengths[LENGTHS] = {8, 888, 4096};
+static const size_t lengths[] = {8, 888, 4096, 32768};
 
-static const struct shape length_shapes[LENGTHS] = {
+static const struct shape length_shapes[] = {
     {200, 1400000, 255, 16, 8},
     {31065, 24528, 255, 16, 8},
     {143360, 24528, 255, 16, 8},
+    {1146880, 24528, 255, 16, 8},
 };
 
 static const struct shape size_shapes[SIZES] = {

@@ -8,6 +8,13 @@
 #include <string.h>
 #include <time.h>
 
+/* The library's calls of the width. */
+#ifdef BASE_WIDE
+#define LIBRARY_PREFIX throttle_wide
+#else
+#define LIBRARY_PREFIX throttle
+#endif
+
 BASE_DECLARE(o3_differences);
 BASE_DECLARE(o3_compares);
 BASE_DECLARE(native_differences);
@@ -29,10 +36,14 @@ struct build {
                       uint64_t[THROTTLE_LEAST THROTTLE_INDEX_OUT]);
 };
 
-#define BUILD(prefix) {prefix##_setup, prefix##_request, prefix##_done, prefix##_index}
+#define BUILD(prefix)                                             \
+    {                                                             \
+        BASE_NAME(prefix, setup), BASE_NAME(prefix, request),     \
+            BASE_NAME(prefix, done), BASE_NAME(prefix, index)     \
+    }
 
 static const struct build builds[BUILDS] = {
-    [LIBRARY] = BUILD(throttle),
+    [LIBRARY] = BUILD(LIBRARY_PREFIX),
     [O3_DIFFERENCES] = BUILD(o3_differences),
     [O3_COMPARES] = BUILD(o3_compares),
     [NATIVE_DIFFERENCES] = BUILD(native_differences),
@@ -46,10 +57,10 @@ static const struct build builds[BUILDS] = {
  */
 struct memory {
     _Alignas(4096) uint64_t head[THROTTLE_HEAD_CELLS];
-    uint64_t ticks[THROTTLE_MOST_HISTORY_CELLS];
-    uint32_t rows[THROTTLE_MOST_HISTORY_CELLS];
+    uint64_t ticks[BASE_MOST_HISTORY];
+    uint32_t rows[BASE_MOST_HISTORY];
     uint32_t threads[THROTTLE_MOST_THREAD_CELLS];
-    uint16_t counters[THROTTLE_MOST_COUNTER_CELLS];
+    base_counter counters[THROTTLE_MOST_COUNTER_CELLS];
 };
 
 /* Successive calls of a list that are timed together. */
@@ -71,8 +82,8 @@ const uint64_t *setting;
 
 #define STATE(m)                                                                           \
     setting, seeds, THROTTLE_SEEDS, (m)->head, (m)->counters, THROTTLE_MOST_COUNTER_CELLS, \
-        (m)->ticks, THROTTLE_MOST_HISTORY_CELLS, (m)->rows, THROTTLE_MOST_HISTORY_CELLS,   \
-        (m)->threads, THROTTLE_MOST_THREAD_CELLS
+        (m)->ticks, BASE_MOST_HISTORY, (m)->rows, BASE_MOST_HISTORY, (m)->threads,         \
+        THROTTLE_MOST_THREAD_CELLS
 
 _Noreturn void fail(const char *what)
 {

@@ -2,7 +2,7 @@
  * What the parts of the benchmark share: the library, four builds of the plain
  * C baseline and, if the program is linked with one, a former library side by
  * side, lists of calls that all of them answer, and the replay of a list with
- * its times.
+ * its times. All calls are of one width, that of baseline.h.
  *
  * A list is made once. Each of its calls is answered by all builds, whose
  * answers and memory are compared. The replay starts from a copied state, the

@@ -1,8 +1,8 @@
 /*
  * The test of the history by itself, in both C forms, and a loop that only
  * reads the cells, which is the limit of any test of all of them. The library
- * has no call that makes this test alone, and its calls take at most 4,096
- * places; a longer history shows what more places would cost.
+ * has no call that makes this test alone. Its calls take at most 4,096 places at
+ * the old width and 32,768 at the new one.
  */
 #include "harness.h"
 #include "parts.h"

@@ -5,20 +5,16 @@
 #include <stdio.h>
 
 enum { STAYS, ONE, BOTH, SET_UP, CLASSES };
-enum { BATCH = 16, CYCLES = 32, ROUNDS = 30, SHAPES = 4 };
+/* The last is of the new width alone. */
+enum { BATCH = 16, CYCLES = 32, ROUNDS = 30, SHAPES = BASE_MOST_HISTORY < 32768 ? 4 : 5 };
 
-static const struct shape shapes[SHAPES] = {
-    {200, 1400000, 64, 1, 8},
-    {200, 1400000, 64, 16, 8},
-    {31065, 24528, 64, 16, 8},
-    {143360, 24528, 64, 16, 8},
+static const struct shape shapes[] = {
+    {200, 1400000, 64, 1, 8},   {200, 1400000, 64, 16, 8},   {31065, 24528, 64, 16, 8},
+    {143360, 24528, 64, 16, 8}, {1146880, 24528, 64, 16, 8},
 };
 
-static const char *const shape_names[SHAPES] = {
-    "1 bank, H 8",
-    "16 banks, H 8",
-    "16 banks, H 888",
-    "16 banks, H 4096",
+static const char *const shape_names[] = {
+    "1 bank, H 8", "16 banks, H 8", "16 banks, H 888", "16 banks, H 4096", "16 banks, H 32768",
 };
 
 /* Index readings, each so many epochs after the one before. */

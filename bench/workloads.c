@@ -20,10 +20,14 @@ struct workload {
     int hammering;
 };
 
+/* The last is of the new width alone. */
+enum { WORKLOADS = BASE_MOST_HISTORY < 32768 ? 3 : 4 };
+
 static const struct workload workloads[] = {
     {"random rows, H 888", 31065, 0},
     {"two rows hammered, H 888", 31065, 1},
     {"two rows hammered, H 4096", 143360, 1},
+    {"two rows hammered, H 32768", 1146880, 1},
 };
 
 /* A thread of the controller loop: its next request and when it is asked. */
@@ -147,16 +151,15 @@ static void make_list(const struct workload *w)
 
 void run_workloads(void)
 {
-    enum { N = sizeof workloads / sizeof *workloads };
-    struct times times[N];
-    for (size_t i = 0; i < N; i++) {
+    struct times times[WORKLOADS];
+    for (size_t i = 0; i < WORKLOADS; i++) {
         make_list(&workloads[i]);
         measure(ROUNDS, 1, &times[i]);
     }
     printf("\nWorkloads: 16 banks, 8 threads, %d calls; nanoseconds a call, best of %d\n\n", CALLS,
            ROUNDS);
     print_heading("workload");
-    for (size_t i = 0; i < N; i++)
+    for (size_t i = 0; i < WORKLOADS; i++)
         print_times(workloads[i].name, &times[i]);
     printf("\n");
 }

@@ -19,6 +19,10 @@
  * Every call gets the same setting, seeds and memory. A tick is never smaller
  * than that of the call before. docs/c-interface.md has a worked example.
  *
+ * These calls have filter counters of 16 bits. throttle_wide.h, which is included
+ * at the end, has them with counters of 32 bits, for a larger N and a longer
+ * history; it says which width to choose.
+ *
  * Link with libthrottle.a (x86-64); it needs nothing beyond the C library.
  */
 #ifndef THROTTLE_H
@@ -44,7 +48,7 @@ struct throttle_setting {
     uint64_t w;       /* refresh window W: even, 2 to 2^30; an epoch E is W/2 */
     uint64_t trc;     /* least gap of activations in one bank: 1 to 65,535 */
     uint64_t tfaw;    /* at most four activations of the rank in any tFAW ticks: 1 to 65,535 */
-    uint64_t n;       /* blacklisting threshold N: 1 to 32,768 */
+    uint64_t n;       /* blacklisting threshold N: 1 to 32,768, at the new width to 2^20 */
     uint64_t td;      /* delay tD of a blacklisted row: 1 to 2^29 */
     uint64_t l;       /* most activations L of a row in W ticks: 1 to 2^24 */
     uint64_t q;       /* most requests Q in flight for a thread, over all banks: 1 to 255, as many
@@ -92,7 +96,8 @@ enum {
     THROTTLE_HEAD_CELLS = 22,
     THROTTLE_REQUEST_OUT = 3,
     THROTTLE_INDEX_OUT = 3,
-    /* the most cells that an accepted setting uses */
+    /* the greatest N, and the most cells that an accepted setting uses */
+    THROTTLE_MOST_N = 32768,
     THROTTLE_MOST_COUNTER_CELLS = 32768,
     THROTTLE_MOST_HISTORY_CELLS = 4096,
     THROTTLE_MOST_THREAD_CELLS = 1536
@@ -180,8 +185,8 @@ static inline size_t throttle_counter_cells(const struct throttle_setting *s)
 
 /*
  * Cells of ticks and of rows, H = 4 x ceil(tD / tFAW); 0 if tD or tFAW is out
- * of range. More than 4,096 cells are refused with 4, and with 16 more than
- * 1,024 under the small profile.
+ * of range. More than 4,096 cells, at the new width 32,768, are refused with 4,
+ * and with 16 more than 1,024 under the small profile.
  */
 static inline size_t throttle_history_cells(const struct throttle_setting *s)
 {
@@ -216,7 +221,7 @@ enum throttle_refusal {
                                       not 64 seeds */
     THROTTLE_SHORT_WINDOW = 2,     /* W - 1 < 2 x N x tRC */
     THROTTLE_BAD_DELAY = 3,        /* tD below tRC or above E */
-    THROTTLE_LONG_HISTORY = 4,     /* H above 4,096 */
+    THROTTLE_LONG_HISTORY = 4,     /* H above 4,096, at the new width above 32,768 */
     THROTTLE_ABOVE_LIMIT = 5,      /* B > L, with B = 2N + 1 + floor((W - 1 - 2 x N x tRC) / tD) */
     THROTTLE_ABOVE_PROFILE = 16,   /* the small profile, and more than 4 banks or H above 1,024 */
     THROTTLE_SHORT_BUFFER = 6,     /* a buffer has fewer cells than the setting uses */
@@ -386,5 +391,7 @@ uint32_t throttle_index(const uint64_t setting[THROTTLE_LEAST THROTTLE_SETTING_W
 #ifdef __cplusplus
 }
 #endif
+
+#include "throttle_wide.h"
 
 #endif

@@ -1,4 +1,5 @@
 // The headers as a C++ program includes them.
+#include "throttle_wide.h"
 #include "throttle.h"
 #include "throttle_log.h"
 #include "throttle_plan.h"

@@ -11,10 +11,13 @@ static uint64_t setting[THROTTLE_SETTING_WORDS], head[THROTTLE_HEAD_CELLS], tick
 static uint64_t out[THROTTLE_REQUEST_OUT], index_out[THROTTLE_INDEX_OUT];
 static uint64_t delays[THROTTLE_DELAYS_OUT];
 static uint16_t seeds[THROTTLE_SEEDS], counters[2048], row;
-static uint32_t rows[8], threads[3];
+static uint32_t rows[8], threads[3], wide_counters[2048];
 static uint8_t block[THROTTLE_LOG_BLOCK];
 
 #define STATE setting, seeds, THROTTLE_SEEDS, head, counters, 2048, ticks, 8, rows, 8, threads, 3
+#define WIDE_STATE setting, seeds, THROTTLE_SEEDS, head, wide_counters, 2048, ticks, 8, rows, 8, threads, 3
+#define OLD_STATE \
+    setting, seeds, THROTTLE_SEEDS, head, counters, 2048, wide_counters, 2048, ticks, 8, rows, 8, threads, 3
 
 int main(void)
 {
@@ -30,6 +33,21 @@ int main(void)
 #endif
 #ifdef IGNORE_throttle_index
     throttle_index(STATE, 0, 0, 0, index_out);
+#endif
+#ifdef IGNORE_throttle_wide_setup
+    throttle_wide_setup(WIDE_STATE);
+#endif
+#ifdef IGNORE_throttle_wide_request
+    throttle_wide_request(WIDE_STATE, 0, 0, 0, 5, out);
+#endif
+#ifdef IGNORE_throttle_wide_done
+    throttle_wide_done(WIDE_STATE, 0, 0, 0);
+#endif
+#ifdef IGNORE_throttle_wide_index
+    throttle_wide_index(WIDE_STATE, 0, 0, 0, index_out);
+#endif
+#ifdef IGNORE_throttle_change_over
+    throttle_change_over(OLD_STATE);
 #endif
 #ifdef IGNORE_throttle_row
     throttle_row(70000, &row);
@@ -51,5 +69,6 @@ int main(void)
 #endif
     return throttle_setup(STATE) + throttle_request(STATE, 0, 0, 0, 5, out) + throttle_row(5, &row) +
            throttle_index(STATE, 0, 0, 0, index_out) + throttle_delays(setting, delays) +
-           throttle_wide_delays(setting, delays) + throttle_log_seal(block, 1, 1) > 0;
+           throttle_wide_delays(setting, delays) + throttle_log_seal(block, 1, 1) + throttle_change_over(OLD_STATE) +
+           throttle_wide_setup(WIDE_STATE) > 0;
 }

@@ -2,10 +2,9 @@
  * Openings left, the third word of a request's out: for an opened answer N less
  * the row's estimate with the activation counted, never below 0; 0 for every
  * other answer. A refusal leaves out as it was, and the words around out are
- * never written.
+ * never written. At either width, see lent.h.
  */
-#include "check.h"
-#include "lent.h"
+#include "calls.h"
 
 static const struct throttle_setting S = {40, 1, 4, 2, 6, 10, 4, 1, 1, THROTTLE_PROFILE_LARGE};
 
@@ -24,7 +23,8 @@ struct given {
 };
 
 /* A counter of a row: the one that a function names in a filter of a bank. */
-static uint16_t *counter(struct lent *m, size_t bank, size_t filter, size_t function, uint16_t row)
+static counter_cell *counter(struct lent *m, size_t bank, size_t filter, size_t function,
+                             uint16_t row)
 {
     size_t place = 0;
     for (unsigned i = 0; i < 16; i++)
@@ -38,7 +38,7 @@ static uint64_t left_by_counters(struct lent *m, uint64_t tick, size_t bank, uin
 {
     uint64_t least = UINT64_MAX, n = m->words[3];
     for (size_t f = 0; f < 4; f++) {
-        uint16_t x = *counter(m, bank, tick / (m->words[0] / 2) % 2, f, row);
+        counter_cell x = *counter(m, bank, tick / (m->words[0] / 2) % 2, f, row);
         least = x < least ? x : least;
     }
     return least < n ? n - least : 0;
@@ -52,10 +52,9 @@ static struct given ask(struct lent *m, uint64_t tick, uint64_t bank, uint64_t t
     const size_t end = sizeof words / sizeof *words;
     for (size_t i = 0; i < end; i++)
         words[i] = MARK;
-    g.number = throttle_request(m->words, m->seeds, m->seeds_len, m->head, m->counters,
-                                m->counters_len, m->ticks, m->ticks_len, m->rows, m->rows_len,
-                                m->threads, m->threads_len, tick, bank, thread, row,
-                                words + AROUND);
+    g.number = CALL(request)(m->words, m->seeds, m->seeds_len, m->head, m->counters,
+                             m->counters_len, m->ticks, m->ticks_len, m->rows, m->rows_len,
+                             m->threads, m->threads_len, tick, bank, thread, row, words + AROUND);
     for (size_t i = 0; i < AROUND; i++)
         CHECK(words[i] == MARK && words[end - 1 - i] == MARK);
     memcpy(g.out, words + AROUND, sizeof g.out);
@@ -94,9 +93,9 @@ static int reads(struct lent *m, uint64_t tick, uint64_t c, uint64_t d, uint64_t
     const size_t end = sizeof words / sizeof *words;
     for (size_t i = 0; i < end; i++)
         words[i] = MARK;
-    uint32_t number = throttle_index(m->words, m->seeds, m->seeds_len, m->head, m->counters,
-                                     m->counters_len, m->ticks, m->ticks_len, m->rows, m->rows_len,
-                                     m->threads, m->threads_len, tick, 0, 0, out);
+    uint32_t number = CALL(index)(m->words, m->seeds, m->seeds_len, m->head, m->counters,
+                                  m->counters_len, m->ticks, m->ticks_len, m->rows, m->rows_len,
+                                  m->threads, m->threads_len, tick, 0, 0, out);
     for (size_t i = 0; i < AROUND; i++)
         CHECK(words[i] == MARK && words[end - 1 - i] == MARK);
     return number == 0 && out[0] == c && out[1] == d && out[2] == quota;
@@ -154,7 +153,7 @@ static void refusals(void)
         CHECK(refused(&m, settings[i].number, 8, 0, 0));
         throttle_words(&FOUR, m.words);
     }
-    m.words[0] = 1 << 20, m.words[4] = 4 * 1024 + 1;
+    m.words[0] = 1 << 20, m.words[4] = MOST_HISTORY + 1;
     CHECK(refused(&m, THROTTLE_LONG_HISTORY, 8, 0, 0));
     throttle_words(&FOUR, m.words);
     m.counters_len--;
@@ -171,14 +170,20 @@ static void refusals(void)
     give_back(&m);
 }
 
+/* One bank with this N, which may be the greatest. */
+static struct throttle_setting with_n(uint64_t n)
+{
+    return (struct throttle_setting){1 << 30, 1, 65535, n, 65535, 1 << 24,
+                                     1,       1, 1,     THROTTLE_PROFILE_LARGE};
+}
+
 /*
  * The first request after set-up leaves N - 1, whatever the row, and each one
  * after it 1 less. Row 0 has four equal places, and its activation counts once.
  */
 static void down_from_n(uint64_t n, uint16_t row)
 {
-    const struct throttle_setting s = {1 << 30, 1, 65535, n, 65535, 1 << 24,
-                                       1,       1, 1,     THROTTLE_PROFILE_LARGE};
+    const struct throttle_setting s = with_n(n);
     struct lent m = lend(&s);
     CHECK(setup(&m) == 0);
     for (uint64_t i = 0; i < n && i < 1000; i++)
@@ -226,7 +231,8 @@ static void rows_that_share_some(void)
 }
 
 /* Lends row 5's counters in bank 1: these cells in the filter, and one for all in the other. */
-static void lend_counters(struct lent *m, size_t filter, const uint16_t cells[4], uint16_t other)
+static void lend_counters(struct lent *m, size_t filter, const counter_cell cells[4],
+                          counter_cell other)
 {
     for (size_t f = 0; f < 4; f++) {
         *counter(m, 1, filter, f, 5) = cells[f];
@@ -241,29 +247,49 @@ static void lend_counters(struct lent *m, size_t filter, const uint16_t cells[4]
 static void lent_counters(void)
 {
     static const struct {
-        uint16_t cells[4];
+        counter_cell cells[4];
         uint64_t left;
     } cases[] = {{{0, 0, 0, 0}, 3},
-                 {{0, 65535, 65535, 65535}, 3},
+                 {{0, FULL, FULL, FULL}, 3},
                  {{4, 3, 2, 1}, 2},
                  {{65535, 4, 5, 2}, 1},
                  {{3, 3, 3, 3}, 0},
                  {{9, 3, 9, 9}, 0},
                  {{4, 4, 4, 4}, 0},
                  {{5, 6, 7, 8}, 0},
-                 {{4, 65535, 4, 65535}, 0},
+                 {{4, FULL, 4, 65535}, 0},
                  {{32768, 32768, 32768, 32768}, 0},
-                 {{65535, 65535, 65535, 65535}, 0}};
+                 {{FULL, FULL, FULL, FULL}, 0}};
     struct lent m = lend(&FOUR);
     for (size_t i = 0; i < sizeof cases / sizeof *cases; i++)
         for (size_t k = 0; k < 4; k++) {
             size_t filter = k % 2;
             CHECK(setup(&m) == 0);
-            lend_counters(&m, filter, cases[i].cells, k < 2 ? 0 : 65535);
+            lend_counters(&m, filter, cases[i].cells, k < 2 ? 0 : FULL);
             CHECK(opens(&m, 100 + 200 * filter, 1, 5, cases[i].left));
             for (size_t f = 0; f < 4; f++)
                 CHECK(*counter(&m, 1, filter, f, 5) == cases[i].cells[f] + (cases[i].cells[f] < 4));
         }
+    give_back(&m);
+}
+
+/* The greatest N, and counters around it and around 2^16. A row that has reached it is held. */
+static void large_counters(void)
+{
+    static const counter_cell cells[] = {65534, 65535, MOST_N - 2, MOST_N - 1, MOST_N, FULL};
+    const struct throttle_setting s = with_n(MOST_N);
+    struct lent m = lend(&s);
+    for (size_t i = 0; i < sizeof cells / sizeof *cells; i++) {
+        uint64_t after = (uint64_t)cells[i] + (cells[i] < MOST_N);
+        CHECK(setup(&m) == 0);
+        for (size_t k = 0; k < m.counters_len; k++)
+            m.counters[k] = cells[i];
+        CHECK(opens(&m, 0, 0, 5, after < MOST_N ? MOST_N - after : 0));
+        for (size_t f = 0; f < 4; f++)
+            CHECK(*counter(&m, 0, 0, f, 5) == after && *counter(&m, 0, 1, f, 5) == after);
+        CHECK(after < MOST_N ? opens(&m, 2, 0, 5, MOST_N - after - 1)
+                             : held(&m, 2, 0, 5, THROTTLE_WAIT_ROW, s.td));
+    }
     give_back(&m);
 }
 
@@ -293,14 +319,6 @@ static void turns(void)
     give_back(&m);
 }
 
-static uint64_t next_random(uint64_t *x)
-{
-    *x ^= *x << 13;
-    *x ^= *x >> 7;
-    *x ^= *x << 17;
-    return *x;
-}
-
 /*
  * Many requests of few rows with few counters, some of them lent anew: ask
  * compares every answer. Each answer and each number of openings left occurs.
@@ -318,7 +336,7 @@ static void many(void)
         uint64_t bank = next_random(&x) % 2, thread = next_random(&x) % 2;
         tick += next_random(&x) % 200 == 0 ? x % 500 : x % 2;
         if (next_random(&x) % 16 == 0)
-            m.counters[bank * 2048 + x / 16 % 2 * 1024 + x / 32 % 8] = (uint16_t)(x / 256 % 6);
+            m.counters[bank * 2048 + x / 16 % 2 * 1024 + x / 32 % 8] = (counter_cell)(x / 256 % 6);
         struct given g = ask(&m, tick, bank, thread, (uint16_t)(next_random(&x) % 20));
         CHECK(g.number == 0);
         if (g.number != 0 || g.out[0] > 4 || g.out[2] > 3)
@@ -347,11 +365,12 @@ int main(void)
     down_from_n(2, 0);
     down_from_n(300, 0);
     down_from_n(300, 4660);
-    down_from_n(32768, 65535);
+    down_from_n(MOST_N, 65535);
     rows_that_share_all();
     rows_that_share_some();
     lent_counters();
+    large_counters();
     turns();
     many();
-    return result("left");
+    return result("left" OF_WIDTH);
 }

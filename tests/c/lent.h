@@ -11,12 +11,31 @@
 #include <stdlib.h>
 #include <string.h>
 
+/*
+ * The width: with NEW_WIDTH defined the calls are those of the new width, else
+ * those of the old. The name of a call, the counters' type and greatest number,
+ * the limits, and what the name of a test ends with.
+ */
+#ifdef NEW_WIDTH
+#define CALL(name) throttle_wide_##name
+#define FULL UINT32_MAX
+#define OF_WIDTH ", new width"
+typedef uint32_t counter_cell;
+enum { MOST_N = THROTTLE_WIDE_MOST_N, MOST_HISTORY = THROTTLE_WIDE_MOST_HISTORY_CELLS };
+#else
+#define CALL(name) throttle_##name
+#define FULL UINT16_MAX
+#define OF_WIDTH ""
+typedef uint16_t counter_cell;
+enum { MOST_N = THROTTLE_MOST_N, MOST_HISTORY = THROTTLE_MOST_HISTORY_CELLS };
+#endif
+
 struct lent {
     uint64_t *words;
     uint16_t *seeds;
     size_t seeds_len;
     uint64_t *head;
-    uint16_t *counters;
+    counter_cell *counters;
     size_t counters_len;
     uint64_t *ticks;
     size_t ticks_len;
@@ -48,7 +67,7 @@ static inline struct lent lend(const struct throttle_setting *s)
     throttle_house_seeds(m.seeds);
     m.head = block(THROTTLE_HEAD_CELLS, 8);
     m.counters_len = throttle_counter_cells(s);
-    m.counters = block(m.counters_len, 2);
+    m.counters = block(m.counters_len, sizeof *m.counters);
     m.ticks_len = m.rows_len = throttle_history_cells(s);
     m.ticks = block(m.ticks_len, 8);
     m.rows = block(m.rows_len, 4);
@@ -77,7 +96,7 @@ static inline struct lent copy(const struct lent *m, const struct throttle_setti
 {
     struct lent c = lend(s);
     memcpy(c.head, m->head, THROTTLE_HEAD_CELLS * 8);
-    memcpy(c.counters, m->counters, c.counters_len * 2);
+    memcpy(c.counters, m->counters, c.counters_len * sizeof *c.counters);
     memcpy(c.ticks, m->ticks, c.ticks_len * 8);
     memcpy(c.rows, m->rows, c.rows_len * 4);
     memcpy(c.threads, m->threads, c.threads_len * 4);
@@ -88,7 +107,7 @@ static inline struct lent copy(const struct lent *m, const struct throttle_setti
 static inline int same(const struct lent *m, const struct lent *c)
 {
     return memcmp(m->head, c->head, THROTTLE_HEAD_CELLS * 8) == 0 &&
-           memcmp(m->counters, c->counters, c->counters_len * 2) == 0 &&
+           memcmp(m->counters, c->counters, c->counters_len * sizeof *c->counters) == 0 &&
            memcmp(m->ticks, c->ticks, c->ticks_len * 8) == 0 &&
            memcmp(m->rows, c->rows, c->rows_len * 4) == 0 &&
            memcmp(m->threads, c->threads, c->threads_len * 4) == 0;
@@ -96,30 +115,30 @@ static inline int same(const struct lent *m, const struct lent *c)
 
 static inline uint32_t setup(struct lent *m)
 {
-    return throttle_setup(m->words, m->seeds, m->seeds_len, m->head, m->counters, m->counters_len,
-                          m->ticks, m->ticks_len, m->rows, m->rows_len, m->threads, m->threads_len);
+    return CALL(setup)(m->words, m->seeds, m->seeds_len, m->head, m->counters, m->counters_len,
+                       m->ticks, m->ticks_len, m->rows, m->rows_len, m->threads, m->threads_len);
 }
 
 static inline uint32_t request(struct lent *m, uint64_t tick, uint64_t bank, uint64_t thread,
                                uint16_t row)
 {
-    return throttle_request(m->words, m->seeds, m->seeds_len, m->head, m->counters,
-                            m->counters_len, m->ticks, m->ticks_len, m->rows, m->rows_len,
-                            m->threads, m->threads_len, tick, bank, thread, row, m->out);
+    return CALL(request)(m->words, m->seeds, m->seeds_len, m->head, m->counters, m->counters_len,
+                         m->ticks, m->ticks_len, m->rows, m->rows_len, m->threads, m->threads_len,
+                         tick, bank, thread, row, m->out);
 }
 
 static inline uint32_t done(struct lent *m, uint64_t tick, uint64_t bank, uint64_t thread)
 {
-    return throttle_done(m->words, m->seeds, m->seeds_len, m->head, m->counters, m->counters_len,
-                         m->ticks, m->ticks_len, m->rows, m->rows_len, m->threads, m->threads_len,
-                         tick, bank, thread);
+    return CALL(done)(m->words, m->seeds, m->seeds_len, m->head, m->counters, m->counters_len,
+                      m->ticks, m->ticks_len, m->rows, m->rows_len, m->threads, m->threads_len,
+                      tick, bank, thread);
 }
 
 static inline uint32_t reading(struct lent *m, uint64_t tick, uint64_t bank, uint64_t thread)
 {
-    return throttle_index(m->words, m->seeds, m->seeds_len, m->head, m->counters, m->counters_len,
-                          m->ticks, m->ticks_len, m->rows, m->rows_len, m->threads, m->threads_len,
-                          tick, bank, thread, m->index);
+    return CALL(index)(m->words, m->seeds, m->seeds_len, m->head, m->counters, m->counters_len,
+                       m->ticks, m->ticks_len, m->rows, m->rows_len, m->threads, m->threads_len,
+                       tick, bank, thread, m->index);
 }
 
 #endif

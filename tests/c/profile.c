@@ -2,10 +2,9 @@
  * The profile, the last word of the setting: which settings are refused with 16
  * and which with a number before it, that every call tests it and a refused one
  * changes nothing, and that the same calls under both profiles give the same
- * replies and leave the same memory.
+ * replies and leave the same memory. At either width, see lent.h.
  */
-#include "check.h"
-#include "lent.h"
+#include "calls.h"
 
 _Static_assert(THROTTLE_PROFILE_LARGE == 0 && THROTTLE_PROFILE_SMALL == 1, "the marks");
 _Static_assert(THROTTLE_SMALL_BANKS == 4 && THROTTLE_SMALL_HISTORY_CELLS == 1024, "the limits");
@@ -23,17 +22,17 @@ struct whole {
     struct lent m; /* the parts below, as the calls take them */
     uint64_t a[AROUND], words[THROTTLE_SETTING_WORDS];
     uint64_t b[AROUND], head[THROTTLE_HEAD_CELLS];
-    uint64_t c[AROUND], ticks[THROTTLE_MOST_HISTORY_CELLS];
+    uint64_t c[AROUND], ticks[MOST_HISTORY];
     uint64_t d[AROUND], out[THROTTLE_REQUEST_OUT];
     uint64_t e[AROUND], index[THROTTLE_INDEX_OUT];
     uint64_t f[AROUND];
-    uint32_t rows[THROTTLE_MOST_HISTORY_CELLS];
+    uint32_t rows[MOST_HISTORY];
     uint64_t g[AROUND];
     uint32_t threads[THROTTLE_MOST_THREAD_CELLS];
     uint64_t h[AROUND];
     uint16_t seeds[THROTTLE_SEEDS];
     uint64_t i[AROUND];
-    uint16_t counters[THROTTLE_MOST_COUNTER_CELLS];
+    counter_cell counters[THROTTLE_MOST_COUNTER_CELLS];
     uint64_t j[AROUND];
 };
 
@@ -48,9 +47,9 @@ static void start(struct whole *w, struct throttle_setting s, uint64_t profile)
                          .counters = w->counters,
                          .counters_len = THROTTLE_MOST_COUNTER_CELLS,
                          .ticks = w->ticks,
-                         .ticks_len = THROTTLE_MOST_HISTORY_CELLS,
+                         .ticks_len = MOST_HISTORY,
                          .rows = w->rows,
-                         .rows_len = THROTTLE_MOST_HISTORY_CELLS,
+                         .rows_len = MOST_HISTORY,
                          .threads = w->threads,
                          .threads_len = THROTTLE_MOST_THREAD_CELLS,
                          .out = w->out,
@@ -102,6 +101,8 @@ static int gets(struct throttle_setting s, uint64_t profile, uint32_t number)
 /* S with so many banks, and settings with so many history places. */
 #define BANKS(banks) {40, 1, 4, 2, 6, 10, 4, banks, 1, 0}
 #define DELAY(td, tfaw, l, banks) {4000, 1, tfaw, 2, td, l, 4, banks, 32, 0}
+/* The longest history, and so many ticks more of delay. */
+#define LONGER(ticks, banks) {40000, 1, 1, 2, MOST_HISTORY / 4 + ticks, 100, 4, banks, 32, 0}
 /* The timing of docs/hardware-guide.md. */
 #define CARD(n, td, l, banks) {256000000, 185, 140, n, td, l, 64, banks, 8, 0}
 
@@ -122,8 +123,9 @@ static const struct {
     {0, 16, DELAY(769, 3, 100, 1)},      /* H 1,028, rounded up */
     {0, 16, DELAY(1024, 1, 100, 1)},     /* H 4,096 */
     {0, 16, DELAY(257, 1, 100, 5)},      /* both are above */
-    {4, 4, DELAY(1025, 1, 100, 1)},      /* H 4,100 */
-    {4, 4, DELAY(1025, 1, 100, 5)},
+    {0, 16, LONGER(0, 5)},
+    {4, 4, LONGER(1, 1)},                /* H four places above the limit */
+    {4, 4, LONGER(1, 5)},
     {0, 16, DELAY(257, 1, 20, 1)},       /* B 20 */
     {5, 5, DELAY(257, 1, 19, 1)},
     {5, 5, {40, 1, 4, 2, 6, 9, 4, 5, 1, 0}},
@@ -236,59 +238,11 @@ static void sizes(void)
     CHECK(answered(&w, 3, 31));
     CHECK(done(&w.m, 7, 4, 0) == THROTTLE_OUTSIDE_SETTING);
     CHECK(w.counters[w.m.counters_len - 1] == 0);
-    CHECK(w.counters[w.m.counters_len] == (uint16_t)PATTERNS);
+    CHECK(w.counters[w.m.counters_len] == (counter_cell)PATTERNS);
     CHECK(w.ticks[w.m.ticks_len - 1] == 0 && w.ticks[w.m.ticks_len] == PATTERNS);
     CHECK(w.rows[w.m.rows_len - 1] == 0 && w.rows[w.m.rows_len] == (uint32_t)PATTERNS);
     CHECK(w.threads[w.m.threads_len - 1] == 0);
     CHECK(w.threads[w.m.threads_len] == (uint32_t)PATTERNS);
-}
-
-/* A call of a run; each kind has its arguments. */
-struct call {
-    enum { REQUEST, DONE, READING, SETUP } kind;
-    uint64_t tick, bank, thread;
-    uint16_t row;
-};
-
-static uint32_t make_call(struct whole *w, const struct call *c)
-{
-    switch (c->kind) {
-    case REQUEST: return request(&w->m, c->tick, c->bank, c->thread, c->row);
-    case DONE: return done(&w->m, c->tick, c->bank, c->thread);
-    case READING: return reading(&w->m, c->tick, c->bank, c->thread);
-    default: return setup(&w->m);
-    }
-}
-
-static uint64_t next_random(uint64_t *x)
-{
-    *x ^= *x << 13;
-    *x ^= *x >> 7;
-    *x ^= *x << 17;
-    return *x;
-}
-
-/* A call after this tick, now and then before it, or with a bank or thread outside the setting. */
-static struct call next_call(const struct throttle_setting *s, uint64_t tick, uint64_t *x)
-{
-    uint64_t kind = next_random(x) % 500, step = next_random(x) % 90;
-    struct call c;
-    c.kind = kind < 300 ? REQUEST : kind < 460 ? DONE : kind < 499 ? READING : SETUP;
-    c.tick = tick;
-    c.bank = next_random(x) % s->banks;
-    c.thread = next_random(x) % s->threads;
-    c.row = (uint16_t)(next_random(x) % 3);
-    if (step == 0)
-        c.tick += next_random(x) % (s->w + 2);
-    else if (step == 1 && tick > 0)
-        c.tick -= 1;
-    else if (step > 60)
-        c.tick += next_random(x) % (s->trc + 2);
-    if (next_random(x) % 64 == 0)
-        c.bank = s->banks;
-    if (next_random(x) % 64 == 0)
-        c.thread = s->threads;
-    return c;
 }
 
 /* All but the setting is the same. */
@@ -298,18 +252,7 @@ static int alike(const struct whole *x, const struct whole *y)
     return memcmp((const char *)x + from, (const char *)y + from, sizeof *x - from) == 0;
 }
 
-static uint64_t answers[5], numbers[THROTTLE_NONE_IN_FLIGHT + 1];
-
-/* Notes what a call gave; whether it can have given it. */
-static int noted(const struct whole *w, const struct call *c, uint32_t number)
-{
-    if (number > THROTTLE_NONE_IN_FLIGHT || w->out[0] > THROTTLE_QUOTA)
-        return 0;
-    numbers[number]++;
-    if (c->kind == REQUEST && number == 0)
-        answers[w->out[0]]++;
-    return 1;
-}
+static struct tally tally;
 
 /* The same calls on two states, one under each profile. */
 static void same_run(struct throttle_setting s, uint64_t count)
@@ -323,11 +266,11 @@ static void same_run(struct throttle_setting s, uint64_t count)
     CHECK(setup(&large.m) == 0 && setup(&small.m) == 0);
     for (uint64_t k = 0; k < count; k++) {
         struct call c = next_call(&s, large.head[0], &x);
-        uint32_t number = make_call(&large, &c);
-        int same_reply = make_call(&small, &c) == number &&
+        uint32_t number = make_call(&large.m, &c);
+        int same_reply = make_call(&small.m, &c) == number &&
                          memcmp(large.out, small.out, sizeof large.out) == 0 &&
                          memcmp(large.index, small.index, sizeof large.index) == 0;
-        CHECK(same_reply && noted(&small, &c, number));
+        CHECK(same_reply && noted(&tally, &c, number, small.out));
         CHECK(k % 64 != 0 || alike(&large, &small));
     }
     CHECK(alike(&large, &small) && around_kept(&small));
@@ -343,10 +286,7 @@ static void same_runs(void)
                                                    CARD(1, 35840, 8192, 4)};
     for (size_t k = 0; k < sizeof runs / sizeof *runs; k++)
         same_run(runs[k], 4000);
-    for (size_t k = 0; k <= THROTTLE_QUOTA; k++)
-        CHECK(answers[k] > 20);
-    CHECK(numbers[THROTTLE_ANSWERED] > 4000 && numbers[THROTTLE_NONE_IN_FLIGHT] > 20);
-    CHECK(numbers[THROTTLE_OUTSIDE_SETTING] > 20 && numbers[THROTTLE_BAD_TICK] > 20);
+    all_noted(&tally);
 }
 
 int main(void)
@@ -357,5 +297,5 @@ int main(void)
     marked_later();
     sizes();
     same_runs();
-    return result("profile");
+    return result("profile" OF_WIDTH);
 }

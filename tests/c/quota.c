@@ -1,6 +1,6 @@
 /*
- * The quota rule of throttle_request and throttle_done: how quotas are rounded,
- * and in flight as the thread's total over the banks of the setting.
+ * The quota rule of request and done: how quotas are rounded, and in flight as
+ * the thread's total over the banks of the setting. At either width, see lent.h.
  */
 #include "check.h"
 #include "lent.h"
@@ -150,5 +150,5 @@ int main(void)
     wide_sums(16, UINT32_C(1) << 28, UINT32_C(1) << 28);
     wide_sums(16, UINT32_MAX, UINT32_MAX);
     bank_outside_the_setting();
-    return result("quota");
+    return result("quota" OF_WIDTH);
 }

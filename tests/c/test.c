@@ -1,6 +1,6 @@
 /*
- * Calls everything that include/throttle.h declares: the types, the sizes, the
- * seeds, names and rows of the inline functions, the sample runs of the
+ * Makes the four calls of a width (see lent.h) and those of the inline functions:
+ * the types, the sizes, the seeds, names and rows, the sample runs of the
  * specification, every refusal of every call, and the order and width of the
  * arguments by values that differ in each of them.
  */
@@ -8,7 +8,7 @@
 #include "lent.h"
 
 #define BUFFERS                                                                                    \
-    const uint64_t *, const uint16_t *, size_t, uint64_t *, uint16_t *, size_t, uint64_t *,        \
+    const uint64_t *, const uint16_t *, size_t, uint64_t *, counter_cell *, size_t, uint64_t *,    \
         size_t, uint32_t *, size_t, uint32_t *, size_t
 
 typedef uint32_t setup_type(BUFFERS);
@@ -16,10 +16,10 @@ typedef uint32_t request_type(BUFFERS, uint64_t, uint64_t, uint64_t, uint16_t, u
 typedef uint32_t done_type(BUFFERS, uint64_t, uint64_t, uint64_t);
 typedef uint32_t index_type(BUFFERS, uint64_t, uint64_t, uint64_t, uint64_t *);
 
-_Static_assert(_Generic(&throttle_setup, setup_type *: 1, default: 0), "type of set-up");
-_Static_assert(_Generic(&throttle_request, request_type *: 1, default: 0), "type of request");
-_Static_assert(_Generic(&throttle_done, done_type *: 1, default: 0), "type of done");
-_Static_assert(_Generic(&throttle_index, index_type *: 1, default: 0), "type of index");
+_Static_assert(_Generic(&CALL(setup), setup_type *: 1, default: 0), "type of set-up");
+_Static_assert(_Generic(&CALL(request), request_type *: 1, default: 0), "type of request");
+_Static_assert(_Generic(&CALL(done), done_type *: 1, default: 0), "type of done");
+_Static_assert(_Generic(&CALL(index), index_type *: 1, default: 0), "type of index");
 _Static_assert(sizeof(struct throttle_setting) == THROTTLE_SETTING_WORDS * sizeof(uint64_t),
                "a word for each field");
 _Static_assert(THROTTLE_SETTING_WORDS == 10 && THROTTLE_HEAD_CELLS == 22, "what is given");
@@ -260,7 +260,7 @@ static void refused_settings(struct lent *m)
         CHECK(refused(m, cases[i].number, FIRST, 2, 4));
         m->words[cases[i].field] = kept;
     }
-    m->words[0] = 1 << 20, m->words[4] = 1024 * 7 + 1;
+    m->words[0] = 1 << 20, m->words[4] = MOST_HISTORY / 4 * 7 + 1;
     CHECK(setup(m) == THROTTLE_LONG_HISTORY && refused(m, THROTTLE_LONG_HISTORY, FIRST, 2, 4));
     throttle_words(&TEN, m->words);
     for (unsigned field = 0; field < THROTTLE_SETTING_WORDS; field++) {
@@ -328,7 +328,7 @@ static void longer_buffers(void)
     struct throttle_setting wide = TEN;
     wide.td += 7;
     struct lent m = lend(&wide);
-    m.counters = realloc(m.counters, (m.counters_len += 3) * 2);
+    m.counters = realloc(m.counters, (m.counters_len += 3) * sizeof *m.counters);
     m.threads = realloc(m.threads, (m.threads_len += 3) * 4);
     if (!m.counters || !m.threads)
         abort();
@@ -344,42 +344,17 @@ static void longer_buffers(void)
     give_back(&m);
 }
 
-/* The delays of the paper's formula in docs/hardware-guide.md, with H and the bound B for each N. */
-static void published(void)
-{
-    static const struct {
-        uint64_t td, history, n, bound;
-    } rows[] = {
-        {31065, 888, 8192, 24528},  {31065, 888, 4096, 16384},  {30800, 880, 4096, 16455},
-        {62315, 1784, 4096, 12276}, {62315, 1784, 2048, 8192},  {124815, 3568, 2048, 6141},
-        {124815, 3568, 1024, 4096}, {15440, 444, 8192, 32768},  {249815, 7140, 512, 2048},
-        {499815, 14284, 256, 1024}, {999815, 28568, 128, 512},
-    };
-    for (size_t i = 0; i < sizeof rows / sizeof *rows; i++) {
-        struct throttle_setting s = {256000000, 185, 140, rows[i].n, rows[i].td, rows[i].bound,
-                                     64,        16,  8,   THROTTLE_PROFILE_LARGE};
-        CHECK(throttle_history_cells(&s) == rows[i].history);
-        int too_long = rows[i].history > 4096;
-        struct lent m = lend(&s);
-        CHECK(setup(&m) == (too_long ? THROTTLE_LONG_HISTORY : THROTTLE_ANSWERED));
-        m.words[5]--;
-        CHECK(setup(&m) == (too_long ? THROTTLE_LONG_HISTORY : THROTTLE_ABOVE_LIMIT));
-        give_back(&m);
-    }
-}
-
 int main(void)
 {
     sizes();
     house_seeds();
     names();
     checked_rows();
-    published();
     samples();
     rank_rule();
     order_of_arguments();
     order_of_seeds();
     refusals();
     longer_buffers();
-    return result("c");
+    return result("c" OF_WIDTH);
 }
