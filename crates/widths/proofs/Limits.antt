@@ -62,6 +62,7 @@ new-settings =
       weakOld = refl;
       longest = refl;
       longestNew = refl;
+      longestOld = refl;
       longer = refl;
       greatest = refl;
       greatestOld = refl;

@@ -34,8 +34,8 @@ abbrev pub OldAccepted : Type 0
 OldAccepted = (s : Setting) (seeds : List ℕ) → settingRefusal limits01 s seeds ≡ none → settingRefusal limits02 s seeds ≡ none
 
 -- "Chips with a limit near 1,000 need tens of thousands of history places. The history may reach 32,768 places, N may reach 2^20": BlockHammer's
--- Table 1 for a chip with L 1,024, with the least delay for N 400 and with the longest history, and a setting with the greatest N. The new width
--- accepts them and what is one above them it refuses; the old width refuses them with 4 and 1.
+-- Table 1 for a chip with L 1,024, with the least delay for N 400 and with the longest history, and a setting with the greatest N. The old width
+-- refuses them with 4, 4 and 1. The new width accepts them, and refuses one tick less of delay with 5, one tick more with 4, and N + 1 with 1.
 abbrev pub greatestN : ℕ → Setting
 greatestN n = settingOf (2 ^ 30 ∷ 1 ∷ 4 ∷ n ∷ 74 ∷ 2 ^ 24 ∷ 4 ∷ 1 ∷ 1 ∷ 0 ∷ [])
 
@@ -47,6 +47,7 @@ pub record NewSettings : Type 0 where
   pub weakOld : settingRefusal limits01 (tableOne 400 1142197 1024) house ≡ longHistory
   pub longest : historyLength (tableOne 400 1146880 1024) ≡ 32768
   pub longestNew : settingRefusal limits02 (tableOne 400 1146880 1024) house ≡ none
+  pub longestOld : settingRefusal limits01 (tableOne 400 1146880 1024) house ≡ longHistory
   pub longer : settingRefusal limits02 (tableOne 400 1146881 1024) house ≡ longHistory
   pub greatest : settingRefusal limits02 (greatestN (2 ^ 20)) house ≡ none
   pub greatestOld : settingRefusal limits01 (greatestN (2 ^ 20)) house ≡ outOfRange
