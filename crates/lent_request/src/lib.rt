@@ -10,7 +10,8 @@ use words::store_answered;
 ghost use mathlib.Core.Path.{_≡_};
 ghost use mathlib.Core.Logic.{_≢_};
 ghost use mathlib.Core.List.{[], _∷_};
-ghost use Prim.Native.Nat.{_≤_};
+ghost use Prim.Native.Nat.{_≤_, _<_};
+ghost use lib.ListN.{getD};
 ghost use Rattle.head.specs.Head.{movedHead};
 ghost use Rattle.rules.specs.Answers.{refusalNumber, answerNumber, answerWait, answerLeft};
 ghost use Rattle.rules.specs.Setting.{settingOf};
@@ -61,6 +62,14 @@ pub fn tested(
         code,
         table: differing == 0,
     }
+}
+
+// The stored tick of a bank, in the head's words.
+pub fn bank_word(head: &[u64; 22], bank: u64) -> u64
+    requires { ⌜ bank < 16 ⌝ }
+    ensures { λ r. ⌜ r ≡ getD (headOf (now (head .entry)) .bank) bank 0 ⌝ }
+{
+    head[2 + bank as usize]
 }
 
 // Stores the head after an answer, and the words of the answer.

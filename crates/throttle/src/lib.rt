@@ -2,11 +2,8 @@
 // from one to the other. Every call returns 0 when it answered, and else the number of its refusal; a refused call changes nothing that was lent. Of
 // buffers that overlap nothing is promised.
 use change_over::change_over;
-use lent_request::tested;
-use lent_request::told;
 use setting::narrow_limits;
 use setting::wide_limits;
-use words::load_head;
 ghost use mathlib.Core.Path.{_≡_};
 ghost use mathlib.Core.List.{[]};
 ghost use Rattle.rules.specs.Setting.{settingOf};
@@ -70,30 +67,10 @@ pub extern "C" fn throttle_request(
 ) -> u32
     ensures { λ r. ⌜ left r (now (out .exit)) (now (head .exit)) (now (counters .exit)) (now (ticks .exit)) (now (rows .exit)) (now (threads .exit)) ≡ leaves (step narrow (settingOf (now (setting .entry))) (now (seeds .entry)) (found (now (head .entry)) (now (counters .entry)) (now (ticks .entry)) (now (rows .entry)) (now (threads .entry))) (request tick bank thread row)) (now (out .entry)) (now (head .entry)) ⌝ }
 {
-    let t = tested(
-        narrow_limits(),
+    narrow_request::request(
         setting,
         seeds,
-        &*head,
-        counters.len(),
-        &*ticks,
-        rows.len(),
-        threads.len(),
-        tick,
-        bank,
-        thread,
-    );
-    if t.code != 0 {
-        return t.code;
-    }
-    let s = setting::load(setting);
-    let h = load_head(&*head);
-    let d = calls::request(
-        s,
-        t.table,
-        seeds,
-        h,
-        head[2 + bank as usize],
+        head,
         counters,
         ticks,
         rows,
@@ -102,11 +79,8 @@ pub extern "C" fn throttle_request(
         bank,
         thread,
         row,
-    );
-    let answer = d.answer;
-    let after = d.head;
-    told(answer, after, head, out);
-    0
+        out,
+    )
 }
 
 // A request done: one less in flight for the thread in the bank.
@@ -226,30 +200,10 @@ pub extern "C" fn throttle_wide_request(
 ) -> u32
     ensures { λ r. ⌜ left r (now (out .exit)) (now (head .exit)) (now (counters .exit)) (now (ticks .exit)) (now (rows .exit)) (now (threads .exit)) ≡ leaves (step wide (settingOf (now (setting .entry))) (now (seeds .entry)) (found (now (head .entry)) (now (counters .entry)) (now (ticks .entry)) (now (rows .entry)) (now (threads .entry))) (request tick bank thread row)) (now (out .entry)) (now (head .entry)) ⌝ }
 {
-    let t = tested(
-        wide_limits(),
+    wide_request::request(
         setting,
         seeds,
-        &*head,
-        counters.len(),
-        &*ticks,
-        rows.len(),
-        threads.len(),
-        tick,
-        bank,
-        thread,
-    );
-    if t.code != 0 {
-        return t.code;
-    }
-    let s = setting::load(setting);
-    let h = load_head(&*head);
-    let d = wide_calls::request(
-        s,
-        t.table,
-        seeds,
-        h,
-        head[2 + bank as usize],
+        head,
         counters,
         ticks,
         rows,
@@ -258,11 +212,8 @@ pub extern "C" fn throttle_wide_request(
         bank,
         thread,
         row,
-    );
-    let answer = d.answer;
-    let after = d.head;
-    told(answer, after, head, out);
-    0
+        out,
+    )
 }
 
 // A request done, at the new width.

@@ -1,4 +1,4 @@
--- `throttle_request` is refused as the rules say, or is the rules' request.
+-- `request` is refused as the rules say, or is the rules' request.
 use Prim.Native.Nat.{_<_}
 use mathlib.Core.Path.{_≡_, sym, ap, ap₂, _∙_}
 use native.Mathlib.Omega.{arith}
@@ -14,10 +14,10 @@ use Rattle.rules.specs.Policy.{limits01, narrow}
 use Rattle.rules.specs.Calls.{Outcome, answered, outcome, callRefusal, requested, step}
 use Rattle.rules.proofs.Accept.{number-none, taken}
 use Rattle.interface.specs.Left.{found}
-use Rattle.lent_request.proofs.Settled.{left-refused, bank-word, call-code, held, left-request}
+use Rattle.lent_request.proofs.Settled.{left-refused, call-code, held, left-request}
 use borrow.Author.Needs.{needs}
-use Rattle.throttle.proofs.throttle_request.Statement.{statement}
-use Rattle.throttle.proofs.throttle_request.Tie as tie
+use Rattle.narrow_request.proofs.request.Statement.{statement}
+use Rattle.narrow_request.proofs.request.Tie as tie
 
 -- the state that the call finds
 abbrev entry : tie.Start → State
@@ -48,7 +48,7 @@ abbrev passed : tie.After-load-head → tie.Else1
 passed c = (c .before .before .before)
 
 abbrev headed : tie.After-request → tie.After-load-head
-headed c = (c .before .before .before .before .before .before)
+headed c = (c .before .before .before .before .before .before .before)
 
 -- the code is the number of the rules' refusal
 code-is : (c : tie.After-tested) → let start = asked c in let a = start .args in c .tested .result .code ≡ refusalNumber (callRefusal limits01 (s start) (a .seeds .now) (entry start) (a .tick) (a .bank) (a .thread))
@@ -106,23 +106,17 @@ load-requires c κs = search needs
 load-head-requires : tie.Need-load-head-requires
 load-head-requires c κs = search needs
 
-add-request : tie.Need-add-request
-add-request c = let k = in-head (passed c) in omega arith
-
-mul-request : tie.Need-mul-request
-mul-request c = let k = in-head (passed c) in omega arith
-
-element-copy-out-request : tie.Need-element-copy-out-request
-element-copy-out-request c = let k = in-head (passed c) in omega arith
+bank-word-requires : tie.Need-bank-word-requires
+bank-word-requires c κs = in-head (passed (c .before))
 
 request-requires : tie.Need-request-requires
 request-requires c κs =
-    let at = (c .before .before .before .before .before) in
+    let at = (c .before .before .before .before .before .before) in
     let here = passed at in
     let a = begun here .args in
     let refused : Setting → Head → Refusal = λ σ h. callRefusal limits01 σ (a .seeds .now) (state h (a .counters .now) (a .ticks .now) (a .rows .now) (a .threads .now)) (a .tick) (a .bank) (a .thread) in (
       ap₂ refused (loaded at .load .ensures) (at .load-head .ensures) ∙ free here,
-      bank-word (a .head .now) (a .bank) (in-head here) ∙ ap (λ h. getD (h .bank) (a .bank) 0) (sym (at .load-head .ensures)),
+      c .before .before .before .before .bank-word .ensures ∙ ap (λ h. getD (h .bank) (a .bank) 0) (sym (at .load-head .ensures)),
       known here .tested .ensures .1,
     )
 
@@ -156,8 +150,8 @@ returns-2 c =
     (left-request limits01 (s start) (a .seeds .now) (a .head .now) (a .counters .now) (a .ticks .now) (a .rows .now) (a .threads .now)
     (a .tick) (a .bank) (a .thread) (a .row) (a .out .now) (ap refusalNumber (free here)) (at .request .result .answer) (after at) (left-by at))
 
-pub throttle-request-spec : {M : Type 1} → statement M
-throttle-request-spec =
+pub request-spec : {M : Type 1} → statement M
+request-spec =
     tie.close
     (tie.spec
     narrow-limits-requires
@@ -166,9 +160,7 @@ throttle-request-spec =
     returns
     load-requires
     load-head-requires
-    add-request
-    mul-request
-    element-copy-out-request
+    bank-word-requires
     request-requires
     told-requires
     same-length-2
