@@ -1,9 +1,10 @@
 -- What an exported call leaves, refused or not, at the limits m of any width.
 use Prim.Native.Nat.{ℕ, _+_, _<_}
-use mathlib.Core.Path.{_≡_, refl, sym, ap, _∙_}
+use mathlib.Core.Path.{_≡_, refl, sym, ap, ap₂, _∙_}
 use mathlib.Core.Logic.{_≢_}
 use mathlib.Core.List.{List, [], _∷_}
 use mathlib.Core.Bool.{false}
+use native.Mathlib.Omega.{arith}
 use lib.ListN.{length, getD}
 use Rattle.head.specs.declared.Head.{Head}
 use Rattle.head.specs.Head.{movedHead}
@@ -12,20 +13,21 @@ use Rattle.rules.specs.declared.Setting.{Setting}
 use Rattle.rules.specs.declared.Decision.{Decision}
 use Rattle.rules.specs.declared.Decision.the-variants.{Open, Hold, OverQuota}
 use Rattle.rules.specs.declared.Answer.{Answer}
-use Rattle.rules.specs.Answers.{Refusal, refusalNumber, answerNumber, answerWait, answerLeft}
-use Rattle.rules.specs.Setting.{indexScale}
-use Rattle.rules.specs.State.{State, countersUsed, threadsUsed, headOf, headWords, fresh}
+use Rattle.rules.specs.Answers.{Refusal, none, refusalNumber, answerNumber, answerWait, answerLeft}
+use Rattle.rules.specs.Setting.{settingOf, indexScale}
+use Rattle.rules.specs.State.{State, state, countersUsed, threadsUsed, headOf, headWords, fresh}
 use Rattle.rules.specs.Clock.{epoch, activeFilter, turnedCounters, turnedThreads, turned}
 use Rattle.rules.specs.Hash.{places}
 use Rattle.rules.specs.Quota.{indexCounter}
 use Rattle.rules.specs.Policy.{inForce}
 use Rattle.rules.specs.Decision.{decide, activated, answerOf}
 use Rattle.rules.specs.Calls.{request, done, index, Reply, refused, answered, finished, shown, afterDecision, Outcome, outcome, oneLess, setup, setupRefusal, callRefusal, doneRefusal, unlessRefused, requested, reported, indexShown, step}
+use Rattle.rules.proofs.Accept.{number-none, taken}
 use Rattle.rules.proofs.Cells.{getD-cells}
 use Rattle.rules.proofs.Step.{unless-taken, unless-refused}
 use Rattle.refusal.specs.Tests.{lentTest, callTest, doneTest}
 use Rattle.refusal.proofs.Refusals.{setup-test, call-test, done-test, lent-setup}
-use Rattle.interface.specs.Left.{left, found, leaves}
+use Rattle.interface.specs.Left.{Left, left, found, leaves}
 
 -- a refused call gives its number and leaves all as it was
 pub left-refused : (r : Refusal) (o : Outcome) (code : ℕ) (out words counters ticks rows threads : List ℕ)
@@ -127,3 +129,76 @@ module _ (m : Limits) (s : Setting) (seeds words counters ticks rows threads : L
   unfolding leaves step indexShown turned movedHead
   left-index tick bank thread out e h c th count scale quota eh ec eth en es eq =
       rw (unless-taken (callRefusal m s seeds before tick bank thread) before (indexShown (inForce m) s (turned s before tick) bank thread) e, eq, es, en, eh, ec, eth)
+
+-- ---- a request on the caller's memory, from the tests on
+
+-- what it is asked with, at the limits m
+pub record Asks (m : Limits) : Type 0 where
+  pub setting : List ℕ
+  pub seeds : List ℕ
+  pub words : List ℕ
+  pub counters : List ℕ
+  pub ticks : List ℕ
+  pub rows : List ℕ
+  pub threads : List ℕ
+  pub tick : ℕ
+  pub bank : ℕ
+  pub thread : ℕ
+  pub row : ℕ
+  pub out : List ℕ
+
+module _ {m : Limits} (q : Asks m) where
+  abbrev s : Setting
+  s = settingOf (q .setting)
+
+  abbrev entry : State
+  entry = found (q .words) (q .counters) (q .ticks) (q .rows) (q .threads)
+
+  -- what the rules perform and what they leave
+  abbrev performs : Outcome
+  performs = requested (inForce m) s (λ f. places (q .seeds) (q .row)) (turned s entry (q .tick)) (q .bank) (q .thread) (q .row)
+
+  abbrev leftBy : Left
+  leftBy = leaves (step (inForce m) s (q .seeds) entry (request (q .tick) (q .bank) (q .thread) (q .row))) (q .out) (q .words)
+
+  -- the code that the tests gave, at limits that are m
+  module _ (l : Limits) (code : ℕ) (el : l ≡ m)
+      (e : code ≡ refusalNumber (callTest l s (q .seeds) (headOf (q .words)) (length (q .counters)) (q .ticks) (length (q .rows)) (length (q .threads)) (q .tick) (q .bank) (q .thread))) where
+    code-is : code ≡ refusalNumber (callRefusal m s (q .seeds) entry (q .tick) (q .bank) (q .thread))
+    code-is = call-code m s (q .seeds) (q .words) (q .counters) (q .ticks) (q .rows) (q .threads) (q .tick) (q .bank) (q .thread) code (rw el at e)
+
+    pub request-refused : code ≢ 0 → left code (q .out) (q .words) (q .counters) (q .ticks) (q .rows) (q .threads) ≡ leftBy
+    unfolding step
+    request-refused h =
+        left-refused (callRefusal m s (q .seeds) entry (q .tick) (q .bank) (q .thread)) performs code (q .out) (q .words) (q .counters) (q .ticks) (q .rows) (q .threads) code-is h
+
+    module _ (z : code ≡ 0) where
+      free : callRefusal m s (q .seeds) entry (q .tick) (q .bank) (q .thread) ≡ none
+      free = number-none _ (sym code-is ∙ z)
+
+      -- the bank is one of the head's sixteen
+      pub in-head : q .bank < 16
+      in-head =
+          let k = taken m s (q .seeds) entry (q .tick) (q .bank) (q .thread) free in
+          omega (arith, k .bank-in, k .setting .ranges .banks-high)
+
+      -- with the setting and the head that were loaded
+      module _ (σ : Setting) (h : Head) (es : σ ≡ s) (eh : h ≡ headOf (q .words)) where
+        pub request-free : callRefusal m σ (q .seeds) (state h (q .counters) (q .ticks) (q .rows) (q .threads)) (q .tick) (q .bank) (q .thread) ≡ none
+        request-free =
+            ap₂ (λ x y. callRefusal m x (q .seeds) (state y (q .counters) (q .ticks) (q .rows) (q .threads)) (q .tick) (q .bank) (q .thread)) es eh ∙ free
+
+        -- what the request answers and leaves
+        module _ (a : Answer) (after : State)
+            (eo : outcome (answered a) after ≡ requested (inForce m) σ (λ f. places (q .seeds) (q .row)) (turned σ (state h (q .counters) (q .ticks) (q .rows) (q .threads)) (q .tick)) (q .bank) (q .thread) (q .row)) where
+          answers : outcome (answered a) after ≡ performs
+          answers =
+              eo
+              ∙ ap₂ (λ x y. requested (inForce m) x (λ f. places (q .seeds) (q .row)) (turned x (state y (q .counters) (q .ticks) (q .rows) (q .threads)) (q .tick)) (q .bank) (q .thread) (q .row)) es eh
+
+          pub request-held : answerNumber a ≢ 0 → after .head ≡ movedHead (headOf (q .words)) (after .head .last)
+          request-held = held m s (q .seeds) (q .words) (q .counters) (q .ticks) (q .rows) (q .threads) (q .tick) (q .bank) (q .thread) (q .row) a after answers
+
+          pub request-left : left 0 (answerNumber a ∷ answerWait a ∷ answerLeft a ∷ []) (headWords (after .head)) (after .counters) (after .ticks) (after .rows) (after .threads) ≡ leftBy
+          request-left =
+              left-request m s (q .seeds) (q .words) (q .counters) (q .ticks) (q .rows) (q .threads) (q .tick) (q .bank) (q .thread) (q .row) (q .out) (ap refusalNumber free) a after answers
