@@ -17,7 +17,7 @@
 //! - `write`: the log writer and an encoder for logs
 //! - `plan`: the planner, that is the delays with which a setting is accepted
 //! - `fault`: wrong behaviours that can be switched on, one at a time, made by
-//!   `listing` from one list
+//!   `listing` from the lists under `fault`
 
 #[macro_use]
 mod listing;
