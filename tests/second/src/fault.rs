@@ -11,6 +11,11 @@
 //! - `CHECKER`: of the profile mark in a log that is read
 //! - `WRITER`: of the profile mark in a log that is written
 //! - `PLANNER`: of the profile mark in the planner
+//! - `WIDE`: of the four calls of the new width, shown by them alone
+//! - `OLD_WIDTH`: of the four calls of the old width, shown by them alone
+//! - `PLAN_LIMITS`: of the limits of a width in the planner
+//! - `LOG_LIMITS`: of the limits in the log checker
+//! - `CHANGE`: of the change-over
 //!
 //! The listings are in files of their own, and `listing` makes the enum from them.
 
@@ -22,5 +27,15 @@ mod left;
 mod hash;
 #[macro_use]
 mod profile;
+#[macro_use]
+mod width;
+#[macro_use]
+mod change;
 
-joined! { [faults_of_calls faults_of_left faults_of_hash faults_of_profile] {} }
+joined! {
+    [
+        faults_of_calls faults_of_left faults_of_hash faults_of_profile faults_of_width
+        faults_of_change
+    ]
+    {}
+}
