@@ -24,5 +24,7 @@ macro_rules! faults {
 /// listed so far and hands them on to the next.
 macro_rules! joined {
     ([] { $($listed:tt)* }) => { faults! { $($listed)* } };
-    ([$first:ident $($rest:ident)*] { $($listed:tt)* }) => { $first! { [$($rest)*] { $($listed)* } } };
+    ([$first:ident $($rest:ident)*] { $($listed:tt)* }) => {
+        $first! { [$($rest)*] { $($listed)* } }
+    };
 }

@@ -25,10 +25,11 @@ pub fn delays(config: &Config, out: &mut [u64; 2]) -> u32 {
         return always;
     }
     let own = between(&setting, &of_profile(&setting, &limits, config));
-    let large = match config.fault {
-        Fault::PlanWideSixteenByOld if is_wide(config) => between(&setting, &of_large(&OLD)),
-        _ => between(&setting, &of_large(&limits)),
+    let without = match config.fault {
+        Fault::PlanWideSixteenByOld if is_wide(config) => OLD,
+        _ => limits,
     };
+    let large = between(&setting, &of_large(&without));
     match (own, large, config.fault) {
         (Some(_), Some(large), Fault::PlanDelaysOfLarge) => {
             *out = large;
@@ -42,7 +43,7 @@ pub fn delays(config: &Config, out: &mut [u64; 2]) -> u32 {
             *out = large;
             16
         }
-        _ => none_accepted(&setting, &limits, large.is_some(), config.fault),
+        _ => none_accepted(&setting, &without, large.is_some(), config.fault),
     }
 }
 

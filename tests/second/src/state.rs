@@ -116,14 +116,19 @@ impl State {
     /// Do the stored history ticks rise anywhere, read from the newest place
     /// back? Needs a history place below H.
     pub fn rises(&self, rules: &Rules) -> bool {
-        let place = self.head[PLACE] as usize;
-        let back = |age: usize| (place + 2 * rules.h - 1 - age) % rules.h;
+        let before = |place: usize| if place == 0 { rules.h - 1 } else { place - 1 };
+        let mut newer = before(self.head[PLACE] as usize);
         let pairs = if rules.has(Fault::WrapPairIsRise) {
             rules.h
         } else {
             rules.h - 1
         };
-        (0..pairs).any(|age| self.rise(rules, back(age), back(age + 1)))
+        (0..pairs).any(|_| {
+            let older = before(newer);
+            let rise = self.rise(rules, newer, older);
+            newer = older;
+            rise
+        })
     }
 
     /// Do the stored ticks rise from one history place to the older one?
