@@ -25,11 +25,12 @@ pub fn delays(config: &Config, out: &mut [u64; 2]) -> u32 {
         return always;
     }
     let own = between(&setting, &of_profile(&setting, &limits, config));
-    let without = match config.fault {
+    // The limits that tell why no delay is accepted. Only a fault takes others.
+    let telling = match config.fault {
         Fault::PlanWideSixteenByOld if is_wide(config) => OLD,
         _ => limits,
     };
-    let large = between(&setting, &of_large(&without));
+    let large = between(&setting, &of_large(&telling));
     match (own, large, config.fault) {
         (Some(_), Some(large), Fault::PlanDelaysOfLarge) => {
             *out = large;
@@ -43,7 +44,7 @@ pub fn delays(config: &Config, out: &mut [u64; 2]) -> u32 {
             *out = large;
             16
         }
-        _ => none_accepted(&setting, &without, large.is_some(), config.fault),
+        _ => none_accepted(&setting, &telling, large.is_some(), config.fault),
     }
 }
 
