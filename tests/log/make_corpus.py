@@ -5,8 +5,8 @@
 
 DIRECTORY gets a file for each log, NAME.log; logs that were there are removed. LOG_MAKER is the
 program second_log of tests/second, which writes faithful logs. The files are the same for each
-run. What a checker has to report is decided here only of the logs about the profile mark and about
-the hash by bytes: their reports stand beside them, NAME.expected.
+run. What a checker has to report is decided here only of the logs about the profile mark, about the
+hash by bytes and about the limits of the old width: their reports stand beside them, NAME.expected.
 """
 
 import pathlib
@@ -19,6 +19,7 @@ import damaged
 import hash_bytes
 import in_flight
 import layout
+import old_limits
 import profile_mark
 import records
 import rounding
@@ -112,6 +113,7 @@ def main():
     in_flight.add_to(corpus)
     profile_mark.add_to(corpus, {"several": SEVERAL, "blacklisting": BLACKLISTING}, {"chip": CHIP, "most": MOST})
     hash_bytes.add_to(corpus)
+    old_limits.add_to(corpus)
     layout.add_to(corpus, log(four()))
     damaged.add_to(corpus, {"four": log(four()), **bases})
     print(f"{len(corpus.names)} logs in {corpus.directory}")

@@ -2,11 +2,12 @@
 // reading only, and so are the old counters.
 use house_seeds::difference;
 use refusal::lent_refusal;
-use setting::narrow_limits;
+use rules::Limits;
 ghost use mathlib.Core.Path.{_≡_};
 ghost use Prim.Native.Nat.{_≤_, min};
 ghost use lib.ListN.{length};
 ghost use Rattle.rules.specs.Setting.{settingOf};
+ghost use Rattle.rules.specs.Policy.{limits01};
 ghost use Rattle.widths.specs.ChangeOver.{changedOver, changeOver};
 ghost use Rattle.interface.specs.Left.{found};
 ghost use Rattle.change_over.specs.Copied.{copied};
@@ -27,8 +28,9 @@ fn shorter(a: usize, b: usize) -> usize
     if a < b { a } else { b }
 }
 
-// The change-over on the caller's memory. The limits are those of the old width. The shorter of the two counter buffers decides whether one is too short.
+// The change-over on the caller's memory; m are the limits of the old width. The shorter of the two counter buffers decides whether one is too short.
 pub fn change_over(
+    m: Limits,
     setting: &[u64; 10],
     seeds: &[u16],
     head: &[u64; 22],
@@ -38,11 +40,12 @@ pub fn change_over(
     rows: &[u32],
     threads: &[u32],
 ) -> u32
+    requires { ⌜ m ≡ limits01 ⌝ }
     ensures { λ r. ⌜ changedOver r (now (counters .exit)) ≡ changeOver (settingOf (now (setting .entry))) (now (seeds .entry)) (found (now (head .entry)) (now (old .entry)) (now (ticks .entry)) (now (rows .entry)) (now (threads .entry))) (now (counters .entry)) ⌝ }
 {
     let differing = difference(seeds);
     let code = lent_refusal(
-        narrow_limits(),
+        m,
         setting,
         differing,
         seeds,

@@ -302,5 +302,15 @@ pub extern "C" fn throttle_change_over(
 ) -> u32
     ensures { λ r. ⌜ changedOver r (now (counters .exit)) ≡ changeOver (settingOf (now (setting .entry))) (now (seeds .entry)) (found (now (head .entry)) (now (old .entry)) (now (ticks .entry)) (now (rows .entry)) (now (threads .entry))) (now (counters .entry)) ⌝ }
 {
-    change_over(setting, seeds, head, old, counters, ticks, rows, threads)
+    change_over(
+        narrow_limits(),
+        setting,
+        seeds,
+        head,
+        old,
+        counters,
+        ticks,
+        rows,
+        threads,
+    )
 }

@@ -34,6 +34,10 @@ pub struct Call {
 }
 
 impl Call {
+    pub fn is_request(&self) -> bool {
+        self.kind == Kind::Request
+    }
+
     pub const SETUP: Call = Call {
         kind: Kind::Setup,
         tick: 0,

@@ -1,27 +1,37 @@
-//! The campaign: numbered runs, each with a setting, seeds, memory and calls
-//! of its own, all settled by the campaign's seed and the run's number.
+//! The campaign of a width: numbered runs, each with a setting, seeds, memory and
+//! calls of its own, all settled by the campaign's seed and the run's number.
 
 use crate::call::{Call, Kind};
-use crate::contents::{fill_any, fill_near, in_flight_cells, lent};
+use crate::contents::{fill_any, fill_near, in_flight_cells};
+use crate::lent::Lent;
 use crate::numbers::Numbers;
 use crate::pair::{Difference, Pair};
 use crate::profiles::near;
 use crate::settings::{at_bounds, large, medium, mixed, odd_seeds, seeds, small, THREADS, W};
 use crate::tally::{Counters, Standing, Tally};
 use crate::walk::Walk;
+use crate::wide::{around, great, long};
 use second::filter::hash;
-use second::{Fault, Setting, State};
+use second::{Fault, Limits, Setting, NEW};
 
 pub struct Campaign {
     seed: u64,
+    limits: Limits,
     bounds: Vec<Setting>,
 }
 
 impl Campaign {
-    pub fn new(seed: u64) -> Self {
+    /// The settings at the bounds of the old width have runs of their own; those of
+    /// the new one are compared by `edges`.
+    pub fn new(seed: u64, limits: Limits) -> Self {
+        let bounds = match limits {
+            NEW => Vec::new(),
+            _ => at_bounds(&limits),
+        };
         Campaign {
             seed,
-            bounds: at_bounds(),
+            limits,
+            bounds,
         }
     }
 
@@ -35,17 +45,18 @@ impl Campaign {
     pub fn run(&self, run: u64, fault: Fault, tally: &mut Tally) -> Result<(), Box<Difference>> {
         let mut numbers = Numbers::new(self.seed ^ run.wrapping_mul(0xD134_2543_DE82_EF95));
         let (setting, seeds) = self.setting(run, &mut numbers);
+        let words = Numbers::new(numbers.word());
+        let mut lent = Lent::cleared(&mut numbers, self.limits, setting, seeds);
         let calls = match run % 16 {
+            _ if lent.places() > 4_096 => 8,
             0..=8 => 60,
             10 | 11 => 6,
             _ => 25,
         };
         let setups = if run % 8 == 7 { 8 } else { 100 };
-        let mut walk = Walk::new(Numbers::new(numbers.word()), calls, setups);
-        let mut state = lent(&mut numbers, &setting);
-        let rows = &walk.rows;
-        let fresh = fill(run, &mut numbers, &setting, &seeds, rows, &mut state);
-        let mut pair = Pair::new(setting, seeds, state, fault);
+        let mut walk = Walk::new(words, calls, setups);
+        let fresh = fill(run, &mut numbers, &walk.rows, &mut lent);
+        let mut pair = Pair::new(lent, fault);
         tally.scenarios += 1;
         if fresh {
             step(&mut pair, &Call::SETUP, &mut walk, tally)?;
@@ -58,19 +69,11 @@ impl Campaign {
         Ok(())
     }
 
-    /// The setting and seeds of a run: mostly small; every eighth run stands
-    /// at a bound, first each of the list, then any; every sixteenth is near the
-    /// limits of the small profile.
+    /// The setting and seeds of a run.
     fn setting(&self, run: u64, numbers: &mut Numbers) -> (Setting, Vec<u16>) {
-        let setting = match run % 16 {
-            0..=6 | 8 | 10..=12 => small(numbers),
-            9 => near(numbers),
-            13 => medium(numbers),
-            14 => large(numbers),
-            _ => match self.bounds.get((run / 8) as usize) {
-                Some(&setting) => setting,
-                None => mixed(numbers),
-            },
+        let setting = match self.limits {
+            NEW => self.of_new(run, numbers),
+            _ => self.of_old(run, numbers),
         };
         let seeds = if run % 16 == 12 {
             odd_seeds(numbers)
@@ -79,28 +82,52 @@ impl Campaign {
         };
         (setting, seeds)
     }
+
+    /// The setting of a run in the old width: mostly small; every eighth run stands
+    /// at a bound, first each of the list, then any; every sixteenth is near the
+    /// limits of the small profile.
+    fn of_old(&self, run: u64, numbers: &mut Numbers) -> Setting {
+        match run % 16 {
+            0..=6 | 8 | 10..=12 => small(numbers),
+            9 => near(numbers),
+            13 => medium(numbers),
+            14 => large(numbers),
+            _ => match self.bounds.get((run / 8) as usize) {
+                Some(&setting) => setting,
+                None => mixed(numbers, &self.limits),
+            },
+        }
+    }
+
+    /// The setting of a run in the new width: some that the old one accepts too,
+    /// some that only the new one does, and some around the bounds.
+    fn of_new(&self, run: u64, numbers: &mut Numbers) -> Setting {
+        match run % 16 {
+            0..=3 | 8 | 12 => small(numbers),
+            4..=6 | 10 => great(numbers),
+            9 => near(numbers),
+            11 => around(numbers),
+            13 => medium(numbers),
+            14 if numbers.one_in(8) => long(numbers),
+            14 => large(numbers),
+            _ => mixed(numbers, &self.limits),
+        }
+    }
 }
 
 /// Fills the memory of a run; is it to be set up first?
-fn fill(
-    run: u64,
-    numbers: &mut Numbers,
-    setting: &Setting,
-    seeds: &[u16],
-    rows: &[u16],
-    state: &mut State,
-) -> bool {
+fn fill(run: u64, numbers: &mut Numbers, rows: &[u16], lent: &mut Lent) -> bool {
     match run % 16 {
         0..=4 => {
-            fill_any(numbers, setting, state);
+            fill_any(numbers, lent);
             true
         }
         10 | 11 => {
-            fill_any(numbers, setting, state);
+            fill_any(numbers, lent);
             false
         }
         _ => {
-            fill_near(numbers, setting, seeds, rows, state);
+            fill_near(numbers, rows, lent);
             numbers.one_in(4)
         }
     }
@@ -119,19 +146,28 @@ fn step(
     walk.note(call, &answer);
     tally.note(pair.setting(), call, &answer, before, head(pair), &thread);
     let with_mark_0 = || pair.with_mark_0(call);
-    tally.marks.note(pair.setting(), answer.number, with_mark_0);
+    let (limits, setting) = (pair.limits(), pair.setting());
+    tally
+        .marks
+        .note(limits, setting, answer.number, with_mark_0);
     if call.kind == Kind::Request && answer.number == 0 {
-        tally.note_left(pair.setting(), &answer, before[0], &counters(pair, call));
+        let counters = counters(pair, call);
+        tally.note_left(pair.setting(), &answer, before[0], &counters);
+        tally
+            .widths
+            .note_request(pair, call, &answer, before[1], &counters);
     }
+    tally.widths.note(pair, answer.number);
     Ok(())
 }
 
 /// The counters of the row of a request that was answered.
 fn counters(pair: &Pair, call: &Call) -> Counters {
-    let cells = pair.memory().counters.cells();
-    let places = hash(pair.memory().seeds.cells(), call.row);
+    let memory = pair.memory();
+    let places = hash(memory.seeds.cells(), call.row);
     let first = call.bank as usize * 2_048;
-    let of_filter = |start: usize| places.map(|place| u64::from(cells[start + place]));
+    let counter = |place| u64::from(memory.counters.get(place).unwrap_or(0));
+    let of_filter = |start: usize| places.map(|place| counter(start + place));
     let epoch = call.tick / (pair.setting()[W] / 2);
     Counters {
         filters: [first, first + 1_024].map(of_filter),

@@ -1,65 +1,28 @@
-//! Lent memory: its lengths, and contents of every kind, from cleared over
-//! odd but sound to arbitrary.
+//! Contents of lent memory of every kind, from cleared over odd but sound to
+//! arbitrary.
 
+use crate::lent::Lent;
 use crate::numbers::Numbers;
-use crate::settings::{history, BANKS, L, N, Q, TD, TFAW, THREADS, TRC, W};
+use crate::settings::{BANKS, L, N, Q, TD, TFAW, THREADS, TRC, W};
 use second::filter::hash;
 use second::state::{BANK, LAST, PLACE, RANK};
 use second::{Setting, State};
 
-/// Cleared memory for a setting, accepted or not: as long as it uses, or, in
-/// some cases, with buffers longer or one cell short.
-pub fn lent(numbers: &mut Numbers, setting: &Setting) -> State {
-    let banks = setting[BANKS].min(16) as usize;
-    let threads = setting[THREADS].min(32) as usize;
-    let (ticks, rows) = (history(setting), history(setting));
-    let mut lengths = [banks * 2_048, ticks, rows, banks * threads * 3];
-    match numbers.within(0, 15) {
-        0 => {
-            let short = numbers.pick(&lengths_to_cut());
-            for (length, _) in lengths.iter_mut().zip(short).filter(|(_, cut)| *cut) {
-                *length = length.saturating_sub(1);
-            }
-        }
-        1 => lengths[numbers.within(0, 3) as usize] = 0,
-        2..=8 => {
-            for length in &mut lengths {
-                *length += numbers.within(0, 5) as usize;
-            }
-        }
-        _ => {}
-    }
-    State {
-        head: [0; 22],
-        counters: vec![0; lengths[0]],
-        ticks: vec![0; lengths[1]],
-        rows: vec![0; lengths[2]],
-        threads: vec![0; lengths[3]],
-    }
-}
-
-/// Which of the four buffers are one cell short: each alone, or all.
-fn lengths_to_cut() -> [[bool; 4]; 5] {
-    [
-        [true, false, false, false],
-        [false, true, false, false],
-        [false, false, true, false],
-        [false, false, false, true],
-        [true; 4],
-    ]
-}
-
 /// Fills memory with any bits. In half of the cases each, the history place is
 /// below H, no kept tick is after the last, and all but a few history ticks
 /// are none, so that every part of refusal 7 decides at times.
-pub fn fill_any(numbers: &mut Numbers, setting: &Setting, state: &mut State) {
+pub fn fill_any(numbers: &mut Numbers, lent: &mut Lent) {
+    let (places, greatest) = (lent.places() as u64, lent.greatest());
+    let state = &mut lent.state;
     state.head.fill_with(|| numbers.word());
-    state.counters.fill_with(|| numbers.word() as u16);
+    state
+        .counters
+        .fill_with(|| numbers.word() as u32 & greatest);
     state.ticks.fill_with(|| numbers.word());
     state.rows.fill_with(|| numbers.word() as u32);
     state.threads.fill_with(|| numbers.word() as u32);
     if numbers.one_in(2) {
-        state.head[PLACE] %= history(setting) as u64;
+        state.head[PLACE] %= places;
     }
     if numbers.one_in(2) {
         state.head[LAST] = u64::MAX - numbers.within(0, 1);
@@ -86,30 +49,26 @@ fn chain(numbers: &mut Numbers, ticks: &mut [u64]) {
 
 /// Fills memory with odd contents that refusal 7 lets pass, but for one case
 /// in eight. The rows are those the calls will ask for.
-pub fn fill_near(
-    numbers: &mut Numbers,
-    setting: &Setting,
-    seeds: &[u16],
-    rows: &[u16],
-    state: &mut State,
-) {
-    let last = last_tick(numbers, setting);
-    state.head[LAST] = last;
-    for cell in BANK..RANK + 4 {
-        state.head[cell] = kept(numbers, setting, last);
+pub fn fill_near(numbers: &mut Numbers, rows: &[u16], lent: &mut Lent) {
+    let setting = lent.setting;
+    let last = last_tick(numbers, &setting);
+    let head = &mut lent.state.head;
+    head[LAST] = last;
+    for cell in &mut head[BANK..RANK + 4] {
+        *cell = kept(numbers, &setting, last);
     }
     if numbers.one_in(3) {
         let foreign = setting[BANKS].min(16) as usize;
-        state.head[BANK + foreign..RANK].fill_with(|| numbers.word());
+        head[BANK + foreign..RANK].fill_with(|| numbers.word());
     }
-    fill_history(numbers, setting, rows, state);
-    fill_counters(numbers, setting, state);
-    if seeds.len() == 64 && numbers.one_in(2) {
-        stand_near_n(numbers, setting, seeds, rows, state);
+    fill_history(numbers, rows, lent);
+    fill_counters(numbers, lent);
+    if lent.seeds.len() == 64 && numbers.one_in(2) {
+        stand_near_n(numbers, rows, lent);
     }
-    fill_threads(numbers, setting, state);
+    fill_threads(numbers, &setting, &mut lent.state);
     if numbers.one_in(8) {
-        spoil(numbers, setting, state);
+        spoil(numbers, lent);
     }
 }
 
@@ -148,13 +107,14 @@ fn kept(numbers: &mut Numbers, setting: &Setting, last: u64) -> u64 {
 
 /// A history whose stored ticks fall when read back, with rows that the calls
 /// will ask for, in banks of the setting and one outside.
-fn fill_history(numbers: &mut Numbers, setting: &Setting, rows: &[u16], state: &mut State) {
-    let h = history(setting);
+fn fill_history(numbers: &mut Numbers, rows: &[u16], lent: &mut Lent) {
+    let (h, setting) = (lent.places(), lent.setting);
+    let state = &mut lent.state;
     let last = state.head[LAST];
     let between = below(numbers, h);
     let place = numbers.pick(&[0, h - 1, between]);
     state.head[PLACE] = place as u64;
-    let mut stored: Vec<u64> = (0..h).map(|_| kept(numbers, setting, last)).collect();
+    let mut stored: Vec<u64> = (0..h).map(|_| kept(numbers, &setting, last)).collect();
     stored.sort_unstable();
     stored.rotate_right(place);
     let used = h.min(state.ticks.len());
@@ -170,37 +130,41 @@ fn below(numbers: &mut Numbers, end: usize) -> usize {
     numbers.within(0, end as u64 - 1) as usize
 }
 
-/// Filter counters below, at and above N.
-fn fill_counters(numbers: &mut Numbers, setting: &Setting, state: &mut State) {
-    let n = setting[N].min(65_535);
-    let style = numbers.within(0, 4);
-    state.counters.fill_with(|| match style {
-        0 => n as u16,
-        1 => numbers.within(0, n + 2).min(65_535) as u16,
-        2 => numbers.within(n.saturating_sub(1), n + 1).min(65_535) as u16,
-        3 => numbers.pick(&[0, 1, n as u16, 65_535]),
-        _ => numbers.word() as u16,
+/// Filter counters below, at and above N; in the new width also around 65,536.
+fn fill_counters(numbers: &mut Numbers, lent: &mut Lent) {
+    let greatest = u64::from(lent.greatest());
+    let n = lent.setting[N].min(greatest);
+    let style = numbers.within(0, if lent.is_wide() { 6 } else { 4 });
+    lent.state.counters.fill_with(|| {
+        let counter = match style {
+            0 => n,
+            1 => numbers.within(0, n + 2),
+            2 => numbers.within(n.saturating_sub(1), n + 1),
+            3 => numbers.pick(&[0, 1, n, greatest]),
+            4 => numbers.word() & greatest,
+            5 => numbers.within(65_534, 65_537),
+            _ => numbers.pick(&[65_535, 65_536, 131_071, 1 << 20, (1 << 20) + 1, 1 << 31]),
+        };
+        counter.min(greatest) as u32
     });
 }
 
 /// The counters of these rows, in each filter of each bank on its own: one of
 /// the four is around N, the others are not below it.
-fn stand_near_n(
-    numbers: &mut Numbers,
-    setting: &Setting,
-    seeds: &[u16],
-    rows: &[u16],
-    state: &mut State,
-) {
-    let n = setting[N].min(65_535);
-    for places in rows.iter().map(|&row| hash(seeds, row)) {
-        for filter in state.counters.chunks_mut(1_024) {
+fn stand_near_n(numbers: &mut Numbers, rows: &[u16], lent: &mut Lent) {
+    let greatest = u64::from(lent.greatest());
+    let n = match lent.is_wide() && numbers.one_in(4) {
+        true => 65_536,
+        false => lent.setting[N].min(greatest),
+    };
+    for places in rows.iter().map(|&row| hash(&lent.seeds, row)) {
+        for filter in lent.state.counters.chunks_mut(1_024) {
             let least = (n + numbers.within(0, 5)).saturating_sub(4);
             let at = numbers.within(0, 3) as usize;
             for (k, place) in places.into_iter().enumerate() {
                 let above = numbers.pick(&[0, 1, 2, 60_000]) * u64::from(k != at);
                 if let Some(counter) = filter.get_mut(place) {
-                    *counter = (least + above).min(65_535) as u16;
+                    *counter = (least + above).min(greatest) as u32;
                 }
             }
         }
@@ -298,13 +262,14 @@ fn stand_at_half(
 }
 
 /// Makes one change that refusal 7 is about, or that lies next to it.
-fn spoil(numbers: &mut Numbers, setting: &Setting, state: &mut State) {
-    let h = history(setting);
+pub fn spoil(numbers: &mut Numbers, lent: &mut Lent) {
+    let h = lent.places();
+    let banks = lent.setting[BANKS].clamp(1, 16);
+    let state = &mut lent.state;
     let after = state.head[LAST].saturating_add(numbers.within(1, 2));
-    let banks = setting[BANKS].clamp(1, 16);
     match numbers.within(0, 5) {
         0 => state.head[PLACE] = numbers.pick(&[h as u64, h as u64 + 1, 1 << 32, u64::MAX]),
-        1 => state.head[PLACE] = (state.head[PLACE] + 1) % h as u64,
+        1 => state.head[PLACE] = state.head[PLACE].wrapping_add(1) % h as u64,
         2 => state.head[BANK + numbers.within(0, banks - 1) as usize] = after,
         3 => state.head[RANK + numbers.within(0, 3) as usize] = after,
         _ => {

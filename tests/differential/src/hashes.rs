@@ -2,15 +2,16 @@
 //! seeds, for which a table gives the hashes; under the house seeds with one bit
 //! of one word changed, for each bit; under other seeds; and under seeds that
 //! change from call to call. All memory is compared after every call, so that a
-//! row hashed wrongly shows by its counters.
+//! row hashed wrongly shows by its counters. It is the same in both widths.
 
 use crate::call::{Call, Kind};
+use crate::lent::Lent;
 use crate::near_house::{changed, others};
 use crate::numbers::Numbers;
 use crate::pair::{Difference, Pair};
 use crate::settings::{seeds, BANKS, THREADS, W};
-use second::setting::{accept, house_seeds};
-use second::{Config, Fault, Setting, State};
+use second::setting::house_seeds;
+use second::{Fault, Limits, Setting};
 
 /// N at its greatest, so that counters grow and openings left tell the estimate;
 /// and N 2, so that rows are held by what others added to their counters.
@@ -22,6 +23,13 @@ const SETTINGS: [Setting; 2] = [
 pub const BITS: u32 = 10;
 /// Requests in flight that are left before a done.
 const FLYING: usize = 4;
+
+/// The width, and the fault of the second implementation or none.
+#[derive(Clone, Copy)]
+pub struct Sides {
+    pub limits: Limits,
+    pub fault: Fault,
+}
 
 /// Requests that were opened under the house seeds, under them with one bit
 /// changed, under others and under seeds that change; requests that were held;
@@ -38,28 +46,28 @@ pub struct Told {
 
 /// Makes lists of calls on both sides, the second implementation with a fault or
 /// without, and stops at the first difference.
-pub fn compare(seed: u64, fault: Fault) -> Result<Told, String> {
+pub fn compare(seed: u64, sides: Sides) -> Result<Told, String> {
     let numbers = &mut Numbers::new(seed);
     let mut told = Told::default();
     for word in 0..64 {
         for bit in 0..BITS {
-            told.changed += one_changed(numbers, word, bit, fault, &mut told.held)?;
+            told.changed += one_changed(numbers, word, bit, sides, &mut told.held)?;
         }
         for bit in BITS..16 {
-            told.refused += refused(numbers, word, bit, fault)?;
+            told.refused += refused(numbers, word, bit, sides)?;
         }
     }
     for (name, seeds) in others(numbers) {
         let rows = [rows_of_bits(), some_rows(numbers, 60)].concat();
-        let lists = Lists::new(&name, &seeds, fault);
+        let lists = Lists::new(&name, &seeds, sides);
         told.other += lists.run(numbers, &rows, &mut told.held)?;
     }
     let house = house_seeds();
-    let lists = Lists::new("the house seeds", &house, fault);
+    let lists = Lists::new("the house seeds", &house, sides);
     let (bytes, all) = (rows_of_bytes(numbers), every_row(numbers));
     told.house += lists.run(numbers, &bytes, &mut told.held)?;
     told.house += lists.run_on(numbers, &SETTINGS[0], &all, &mut told.held)?;
-    told.in_turn += in_turn(numbers, &bytes, fault)?;
+    told.in_turn += in_turn(numbers, &bytes, sides)?;
     Ok(told)
 }
 
@@ -69,7 +77,7 @@ pub fn one_changed(
     numbers: &mut Numbers,
     word: usize,
     bit: u32,
-    fault: Fault,
+    sides: Sides,
     held: &mut u64,
 ) -> Result<u64, String> {
     let (name, seeds) = changed(word, bit);
@@ -77,14 +85,14 @@ pub fn one_changed(
     let mut rows = vec![own, 0, !own, 0x00FF, 0xFF00];
     rows.extend(some_rows(numbers, 8).iter().map(|row| row | own));
     rows.extend(some_rows(numbers, 4));
-    Lists::new(&name, &seeds, fault).run(numbers, &rows, held)
+    Lists::new(&name, &seeds, sides).run(numbers, &rows, held)
 }
 
 /// Each of the four calls under seeds of which one exceeds 1,023: refused with 1.
 /// How many calls were made.
-fn refused(numbers: &mut Numbers, word: usize, bit: u32, fault: Fault) -> Result<u64, String> {
+fn refused(numbers: &mut Numbers, word: usize, bit: u32, sides: Sides) -> Result<u64, String> {
     let (name, seeds) = changed(word, bit);
-    let lists = Lists::new(&name, &seeds, fault);
+    let lists = Lists::new(&name, &seeds, sides);
     let mut pair = lists.pair(numbers, &SETTINGS[0]);
     for kind in Kind::ALL {
         let row = 1 << (word % 16);
@@ -103,9 +111,9 @@ fn refused(numbers: &mut Numbers, word: usize, bit: u32, fault: Fault) -> Result
 
 /// A list in whose calls the house seeds stand, the same with a bit changed, and
 /// random ones, in the same memory; how many requests were opened.
-fn in_turn(numbers: &mut Numbers, rows: &[u16], fault: Fault) -> Result<u64, String> {
+fn in_turn(numbers: &mut Numbers, rows: &[u16], sides: Sides) -> Result<u64, String> {
     let house = house_seeds();
-    let lists = Lists::new("seeds that change from call to call", &house, fault);
+    let lists = Lists::new("seeds that change from call to call", &house, sides);
     let mut list = lists.begun(numbers, &SETTINGS[0])?;
     let mut opened = 0;
     for &row in rows {
@@ -152,21 +160,22 @@ fn every_row(numbers: &mut Numbers) -> Vec<u16> {
 struct Lists<'a> {
     name: &'a str,
     seeds: &'a [u16],
-    fault: Fault,
+    sides: Sides,
 }
 
 impl<'a> Lists<'a> {
-    fn new(name: &'a str, seeds: &'a [u16], fault: Fault) -> Self {
-        Lists { name, seeds, fault }
+    fn new(name: &'a str, seeds: &'a [u16], sides: Sides) -> Self {
+        Lists { name, seeds, sides }
     }
 
     /// Both sides on memory that set-up clears, or, with seeds that are refused,
     /// leaves as it is.
     fn pair(&self, numbers: &mut Numbers, setting: &Setting) -> Pair {
-        let rules = accept(&Config::new(*setting, &[0; 64])).expect("an accepted setting");
-        let mut state = State::cleared(&rules);
-        state.counters.fill_with(|| numbers.word() as u16);
-        Pair::new(*setting, self.seeds.to_vec(), state, self.fault)
+        let mut lent = Lent::exact(self.sides.limits, *setting, self.seeds.to_vec());
+        let greatest = lent.greatest();
+        let counters = &mut lent.state.counters;
+        counters.fill_with(|| numbers.word() as u32 & greatest);
+        Pair::new(lent, self.sides.fault)
     }
 
     /// A list that has made its set-up.
@@ -184,7 +193,7 @@ impl<'a> Lists<'a> {
     fn named<T>(&self, called: Result<T, Box<Difference>>) -> Result<T, String> {
         called.map_err(|found| {
             let Difference { what, call, .. } = *found;
-            format!("{what}: {call:?} under {}", self.name)
+            format!("{what}: {call} under {}", self.name)
         })
     }
 

@@ -4,23 +4,42 @@
 //! than the setting allows. Block 0 of the log writer and the planner are
 //! compared too.
 //!
+//! The throttle is compared in both widths, and so are the change-over and what a
+//! state that was taken over answers.
+//!
 //! - `library`, `memory`: the calls of the archives, on guarded memory
 //! - `side`: library and second implementation behind one face
 //! - `pair`: one call made to both, and the comparison
-//! - `settings`, `profiles`, `contents`, `walk`: settings, memory and calls
-//! - `campaign`, `tally`, `mark_tally`: numbered runs, and what they reached
+//! - `settings`, `wide`, `profiles`: settings of both widths, of the new one only,
+//!   and near the limits of the small profile
+//! - `lent`, `contents`, `walk`: memory, what it holds, and calls
+//! - `campaign`, `tally`, `mark_tally`, `width_tally`: numbered runs in a width, and
+//!   what they reached
+//! - `edges`: settings at the bounds of both widths, for every call
+//! - `change_refusals`: the refusals of the change-over and their order
+//! - `crossing`: lists of calls with a change-over in the middle
+//! - `beside`: a state that was taken over beside one that was not
 //! - `rings`: histories at the edges of refusal 7
+//! - `far`: history places that only the new width has
 //! - `levels`: counters around N, for the openings left
 //! - `hashes`, `near_house`: the house seeds, seeds next to them and others
 //! - `twins`: one setting under both profiles
 //! - `writer`, `planner`: block 0 of logs, and the delays of settings
-//! - `adversary`: rows hammered as often as the answers allow
+//! - `adversary`, `crossed`: rows hammered as often as the answers allow, also across
+//!   a change-over
 
 pub mod adversary;
+pub mod beside;
 pub mod call;
 pub mod campaign;
+pub mod change_refusals;
 mod contents;
+pub mod crossed;
+pub mod crossing;
+pub mod edges;
+pub mod far;
 pub mod hashes;
+pub mod lent;
 pub mod levels;
 mod library;
 mod mark_tally;
@@ -36,4 +55,6 @@ pub mod side;
 pub mod tally;
 pub mod twins;
 mod walk;
+pub mod wide;
+mod width_tally;
 pub mod writer;

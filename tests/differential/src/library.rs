@@ -1,81 +1,74 @@
-//! The four calls of the throttle's archive, as include/throttle.h declares
-//! them, block 0 of the log writer (include/throttle_log.h) and the planner
-//! (include/throttle_plan.h).
+//! The calls of the archives, as the headers declare them: the four calls of the
+//! throttle in both widths and the change-over (include/throttle.h), block 0 of the
+//! log writer (include/throttle_log.h) and the planner (include/throttle_plan.h).
 
 use crate::call::{Call, Kind};
-use crate::memory::{Guarded, Memory};
+use crate::memory::{Counters, Guarded, Memory};
+use second::{Limits, NEW};
+
+/// Declares the four calls of the width whose counters have this type.
+macro_rules! declare {
+    ($counter:ty, $setup:ident, $request:ident, $done:ident, $index:ident) => {
+        declare!(one $setup, $counter,);
+        declare!(
+            one $request, $counter,
+            tick: u64, bank: u64, thread: u64, row: u16, out: *mut u64
+        );
+        declare!(one $done, $counter, tick: u64, bank: u64, thread: u64);
+        declare!(one $index, $counter, tick: u64, bank: u64, thread: u64, out: *mut u64);
+    };
+    (one $name:ident, $counter:ty, $($more:ident: $type:ty),*) => {
+        extern "C" {
+            fn $name(
+                setting: *const u64,
+                seeds: *const u16,
+                seeds_len: usize,
+                head: *mut u64,
+                counters: *mut $counter,
+                counters_len: usize,
+                ticks: *mut u64,
+                ticks_len: usize,
+                rows: *mut u32,
+                rows_len: usize,
+                threads: *mut u32,
+                threads_len: usize,
+                $($more: $type),*
+            ) -> u32;
+        }
+    };
+}
+
+declare!(
+    u16,
+    throttle_setup,
+    throttle_request,
+    throttle_done,
+    throttle_index
+);
+declare!(
+    u32,
+    throttle_wide_setup,
+    throttle_wide_request,
+    throttle_wide_done,
+    throttle_wide_index
+);
 
 extern "C" {
-    fn throttle_setup(
+    fn throttle_change_over(
         setting: *const u64,
         seeds: *const u16,
         seeds_len: usize,
-        head: *mut u64,
-        counters: *mut u16,
+        head: *const u64,
+        old_counters: *const u16,
+        old_len: usize,
+        counters: *mut u32,
         counters_len: usize,
-        ticks: *mut u64,
+        ticks: *const u64,
         ticks_len: usize,
-        rows: *mut u32,
+        rows: *const u32,
         rows_len: usize,
-        threads: *mut u32,
+        threads: *const u32,
         threads_len: usize,
-    ) -> u32;
-
-    fn throttle_request(
-        setting: *const u64,
-        seeds: *const u16,
-        seeds_len: usize,
-        head: *mut u64,
-        counters: *mut u16,
-        counters_len: usize,
-        ticks: *mut u64,
-        ticks_len: usize,
-        rows: *mut u32,
-        rows_len: usize,
-        threads: *mut u32,
-        threads_len: usize,
-        tick: u64,
-        bank: u64,
-        thread: u64,
-        row: u16,
-        out: *mut u64,
-    ) -> u32;
-
-    fn throttle_done(
-        setting: *const u64,
-        seeds: *const u16,
-        seeds_len: usize,
-        head: *mut u64,
-        counters: *mut u16,
-        counters_len: usize,
-        ticks: *mut u64,
-        ticks_len: usize,
-        rows: *mut u32,
-        rows_len: usize,
-        threads: *mut u32,
-        threads_len: usize,
-        tick: u64,
-        bank: u64,
-        thread: u64,
-    ) -> u32;
-
-    fn throttle_index(
-        setting: *const u64,
-        seeds: *const u16,
-        seeds_len: usize,
-        head: *mut u64,
-        counters: *mut u16,
-        counters_len: usize,
-        ticks: *mut u64,
-        ticks_len: usize,
-        rows: *mut u32,
-        rows_len: usize,
-        threads: *mut u32,
-        threads_len: usize,
-        tick: u64,
-        bank: u64,
-        thread: u64,
-        out: *mut u64,
     ) -> u32;
 
     fn throttle_log_start(
@@ -86,11 +79,14 @@ extern "C" {
     ) -> u32;
 
     fn throttle_delays(setting: *const u64, out: *mut u64) -> u32;
+
+    fn throttle_wide_delays(setting: *const u64, out: *mut u64) -> u32;
 }
 
-/// Calls a function of the library on the memory, with further arguments.
+/// Calls a function of the library on the memory with these counters, with further
+/// arguments.
 macro_rules! lend {
-    ($function:ident, $memory:ident $(, $more:expr)*) => {
+    ($function:ident, $memory:ident, $counters:ident $(, $more:expr)*) => {
         // The pointers are those of live, separate buffers of these lengths;
         // out has three cells.
         unsafe {
@@ -99,8 +95,8 @@ macro_rules! lend {
                 $memory.seeds.cells().as_ptr(),
                 $memory.seeds.cells().len(),
                 $memory.head.cells_mut().as_mut_ptr(),
-                $memory.counters.cells_mut().as_mut_ptr(),
-                $memory.counters.cells().len(),
+                $counters.cells_mut().as_mut_ptr(),
+                $counters.cells().len(),
                 $memory.ticks.cells_mut().as_mut_ptr(),
                 $memory.ticks.cells().len(),
                 $memory.rows.cells_mut().as_mut_ptr(),
@@ -113,21 +109,67 @@ macro_rules! lend {
     };
 }
 
-/// Makes a call of the library and returns its number.
+/// Makes one of the four calls of a width, whose names are given, on these counters.
+macro_rules! make {
+    (
+        $call:ident, $memory:ident, $counters:ident;
+        $setup:ident, $request:ident, $done:ident, $index:ident
+    ) => {{
+        let Call {
+            kind,
+            tick,
+            bank,
+            thread,
+            row,
+        } = *$call;
+        let out = $memory.out.cells_mut().as_mut_ptr();
+        match kind {
+            Kind::Setup => lend!($setup, $memory, $counters),
+            Kind::Request => lend!($request, $memory, $counters, tick, bank, thread, row, out),
+            Kind::Done => lend!($done, $memory, $counters, tick, bank, thread),
+            Kind::Index => lend!($index, $memory, $counters, tick, bank, thread, out),
+        }
+    }};
+}
+
+/// Makes a call of the library, in the width of the counters, and returns its
+/// number.
 pub fn call(memory: &mut Memory, call: &Call) -> u32 {
-    let Call {
-        kind,
-        tick,
-        bank,
-        thread,
-        row,
-    } = *call;
-    let out = memory.out.cells_mut().as_mut_ptr();
-    match kind {
-        Kind::Setup => lend!(throttle_setup, memory),
-        Kind::Request => lend!(throttle_request, memory, tick, bank, thread, row, out),
-        Kind::Done => lend!(throttle_done, memory, tick, bank, thread),
-        Kind::Index => lend!(throttle_index, memory, tick, bank, thread, out),
+    match &mut memory.counters {
+        Counters::Old(cells) => make!(
+            call, memory, cells;
+            throttle_setup, throttle_request, throttle_done, throttle_index
+        ),
+        Counters::New(cells) => make!(
+            call, memory, cells;
+            throttle_wide_setup, throttle_wide_request, throttle_wide_done, throttle_wide_index
+        ),
+    }
+}
+
+/// Makes the change-over from memory of the old width to new counters.
+pub fn change_over(memory: &Memory, counters: &mut Guarded<u32>) -> u32 {
+    let Counters::Old(old) = &memory.counters else {
+        panic!("the memory is not of the old width");
+    };
+    // The pointers are those of live, separate buffers of these lengths.
+    unsafe {
+        throttle_change_over(
+            memory.setting.cells().as_ptr(),
+            memory.seeds.cells().as_ptr(),
+            memory.seeds.cells().len(),
+            memory.head.cells().as_ptr(),
+            old.cells().as_ptr(),
+            old.cells().len(),
+            counters.cells_mut().as_mut_ptr(),
+            counters.cells().len(),
+            memory.ticks.cells().as_ptr(),
+            memory.ticks.cells().len(),
+            memory.rows.cells().as_ptr(),
+            memory.rows.cells().len(),
+            memory.threads.cells().as_ptr(),
+            memory.threads.cells().len(),
+        )
     }
 }
 
@@ -145,9 +187,16 @@ pub fn log_start(setting: &Guarded<u64>, seeds: &Guarded<u16>, block: &mut Guard
     }
 }
 
-/// The delays of a setting of ten words; out has two.
-pub fn delays(setting: &Guarded<u64>, out: &mut Guarded<u64>) -> u32 {
+/// The delays of a setting of ten words in a width; out has two.
+pub fn delays(limits: &Limits, setting: &Guarded<u64>, out: &mut Guarded<u64>) -> u32 {
     assert_eq!((setting.cells().len(), out.cells().len()), (10, 2));
+    let (setting, out) = (setting.cells().as_ptr(), out.cells_mut().as_mut_ptr());
     // The pointers are those of live, separate buffers of these lengths.
-    unsafe { throttle_delays(setting.cells().as_ptr(), out.cells_mut().as_mut_ptr()) }
+    unsafe {
+        if *limits == NEW {
+            throttle_wide_delays(setting, out)
+        } else {
+            throttle_delays(setting, out)
+        }
+    }
 }

@@ -3,7 +3,7 @@
 
 use crate::settings::{history, BANKS, MARK};
 use crate::tally::LEAST;
-use second::Setting;
+use second::{Limits, Setting};
 use std::fmt;
 
 /// Names of the events that are counted.
@@ -38,22 +38,30 @@ pub struct MarkTally {
 impl MarkTally {
     /// Counts a call by the number that it returned; `with_mark_0` gives the
     /// number that it would get with mark 0.
-    pub fn note(&mut self, setting: &Setting, number: u32, with_mark_0: impl Fn() -> u32) {
+    pub fn note(
+        &mut self,
+        limits: &Limits,
+        setting: &Setting,
+        number: u32,
+        with_mark_0: impl Fn() -> u32,
+    ) {
+        let places = history(limits, setting);
+        let above = setting[BANKS] > 4 || places > 1_024;
         match (setting[MARK], number) {
             (1, 16) => {
-                self.note_16(setting);
+                self.note_16(setting[BANKS], places);
                 match with_mark_0() {
                     0 => self.events[0] += 1,
                     number @ 6..=10 => self.events[number as usize - 5] += 1,
                     number => panic!("16 where mark 0 gets {number}: {setting:?}"),
                 }
             }
-            (1, 1..=5) if above(setting) => self.events[number as usize + 5] += 1,
+            (1, 1..=5) if above => self.events[number as usize + 5] += 1,
             (1, 0) => {
                 self.events[14] += u64::from(setting[BANKS] == 4);
-                self.events[15] += u64::from(history(setting) == 1_024);
+                self.events[15] += u64::from(places == 1_024);
             }
-            (0, 0) => self.events[16] += u64::from(above(setting)),
+            (0, 0) => self.events[16] += u64::from(above),
             (2.., 1) => match with_mark_0() {
                 0 => self.events[17] += 1,
                 2..=5 => self.events[18] += 1,
@@ -64,8 +72,7 @@ impl MarkTally {
     }
 
     /// Counts a call refused with 16 by what is too many, at the limits.
-    fn note_16(&mut self, setting: &Setting) {
-        let (banks, places) = (setting[BANKS], history(setting));
+    fn note_16(&mut self, banks: u64, places: usize) {
         self.events[11] += u64::from(banks == 5 && places <= 1_024);
         self.events[12] += u64::from(banks <= 4 && places == 1_028);
         self.events[13] += u64::from(banks == 5 && places == 1_028);
@@ -77,11 +84,6 @@ impl MarkTally {
         let missed = EVENTS.iter().zip(&self.events).filter(seldom);
         missed.map(|(name, _)| name.to_string()).collect()
     }
-}
-
-/// More banks or history places than the small profile has.
-fn above(setting: &Setting) -> bool {
-    setting[BANKS] > 4 || history(setting) > 1_024
 }
 
 impl fmt::Display for MarkTally {

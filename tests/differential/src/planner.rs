@@ -1,13 +1,14 @@
-//! The planner compared with the second implementation: settings of both profiles
-//! and of none, of every size.
+//! The planner of a width compared with the second implementation: settings of both
+//! profiles and of none, of every size.
 
 use crate::library;
 use crate::memory::Guarded;
 use crate::numbers::Numbers;
 use crate::profiles::{mark, near};
 use crate::settings::{large, medium, mixed, small, L, MARK, N};
+use crate::wide::{around, great, long};
 use second::plan::delays;
-use second::{Config, Fault, Setting};
+use second::{Config, Fault, Limits, Setting, NEW};
 
 /// Settings that are tried.
 const SETTINGS: u64 = 40_000;
@@ -26,18 +27,18 @@ pub struct Told {
 
 /// Plans on both sides, the second implementation with a fault or without, and
 /// stops at the first difference.
-pub fn compare(seed: u64, fault: Fault) -> Result<Told, String> {
+pub fn compare(seed: u64, limits: Limits, fault: Fault) -> Result<Told, String> {
     let numbers = &mut Numbers::new(seed);
     let mut told = Told::default();
     for _ in 0..SETTINGS {
-        let setting = any(numbers);
-        let (number, out) = one(&setting, fault)?;
+        let setting = any(numbers, &limits);
+        let (number, out) = one(limits, &setting, fault)?;
         if setting[MARK] < 2 {
             told.numbers[setting[MARK] as usize][number as usize] += 1;
         }
         let mut other = setting;
         other[MARK] = 0;
-        if number == 0 && one(&other, Fault::None)?.1 != out {
+        if number == 0 && one(limits, &other, Fault::None)?.1 != out {
             told.fewer += 1;
         }
     }
@@ -45,14 +46,18 @@ pub fn compare(seed: u64, fault: Fault) -> Result<Told, String> {
 }
 
 /// A setting whose delay is of no meaning; L is at times next to 2N + 1.
-fn any(numbers: &mut Numbers) -> Setting {
-    let mut setting = match numbers.within(0, 5) {
+fn any(numbers: &mut Numbers, limits: &Limits) -> Setting {
+    let most = if *limits == NEW { 8 } else { 6 };
+    let mut setting = match numbers.within(0, most) {
         0 => small(numbers),
         1 => near(numbers),
         2 => medium(numbers),
         3 => large(numbers),
-        4 => mixed(numbers),
-        _ => chip(numbers),
+        4 => mixed(numbers, limits),
+        5 => chip(numbers, limits),
+        6 => around(numbers),
+        7 => great(numbers),
+        _ => long(numbers),
     };
     if numbers.one_in(2) {
         setting[MARK] = mark(numbers);
@@ -66,20 +71,25 @@ fn any(numbers: &mut Numbers) -> Setting {
 }
 
 /// A chip with a limit of about 1,000 to 30,000 and a threshold of its half to
-/// its eighth.
-fn chip(numbers: &mut Numbers) -> Setting {
-    let n = numbers.within(100, 8_192);
+/// its eighth; in the new width mostly with a limit around 1,000.
+fn chip(numbers: &mut Numbers, limits: &Limits) -> Setting {
+    let most = match *limits {
+        NEW if !numbers.one_in(4) => 500,
+        _ => 8_192,
+    };
+    let n = numbers.within(100, most);
     let l = n * numbers.within(2, 8) + numbers.within(0, 9);
     let banks = numbers.pick(&[1, 4, 5, 16]);
     [256_000_000, 185, 140, n, 1, l, 255, banks, 8, 0]
 }
 
 /// Plans for one setting on both sides and compares; the number and the delays.
-fn one(setting: &Setting, fault: Fault) -> Result<(u32, [u64; 2]), String> {
+pub fn one(limits: Limits, setting: &Setting, fault: Fault) -> Result<(u32, [u64; 2]), String> {
     let (words, mut lent) = (Guarded::new(setting), Guarded::new(&OUT));
-    let number = library::delays(&words, &mut lent);
+    let number = library::delays(&limits, &words, &mut lent);
     let mut expected = OUT;
-    let wanted = delays(&Config::new(*setting, &[]).with(fault), &mut expected);
+    let config = Config::new(*setting, &[]).within(limits).with(fault);
+    let wanted = delays(&config, &mut expected);
     let found = [lent.cells()[0], lent.cells()[1]];
     if (number, found) != (wanted, expected) {
         return Err(format!(

@@ -1,15 +1,22 @@
 //! Histories at the edges of refusal 7: large ticks, large gaps, and falls in
 //! the first, an inner and the last cell of a block of 64 cells, at the wrap of
-//! the ring and at that of 64 bits. Each is tried with one reading of the index.
+//! the ring and at that of 64 bits. Each is tried with one reading of the index in
+//! a width, or with the change-over.
 
 use crate::call::{Call, Kind};
+use crate::lent::Lent;
 use crate::pair::{Difference, Pair};
 use second::setting::house_seeds;
 use second::state::{LAST, PLACE};
-use second::{Fault, State};
+use second::{Fault, NEW, OLD};
 
-/// Lengths H, around a block, around two blocks, of a chip and the greatest.
+/// Lengths H, around a block, around two blocks, of a chip and the greatest of the
+/// old width.
 const LENGTHS: [usize; 9] = [4, 8, 60, 64, 68, 128, 132, 888, 4_096];
+/// Lengths for the new width, which has others that only it allows, and for the
+/// change-over.
+const NEW_LENGTHS: [usize; 5] = [4, 64, 68, 132, 4_100];
+const CHANGED_LENGTHS: [usize; 4] = [4, 64, 68, 132];
 /// Ticks from one activation to the next where nothing else is said.
 const STEP: u64 = 185;
 /// Gaps between two neighbours.
@@ -39,6 +46,14 @@ const LARGE: [u64; 8] = [
     u64::MAX,
 ];
 
+/// What is asked over a history.
+#[derive(Clone, Copy, PartialEq, Eq)]
+pub enum By {
+    OldIndex,
+    NewIndex,
+    ChangeOver,
+}
+
 /// How many histories passed refusal 7, and how many did not.
 #[derive(Debug, Default)]
 pub struct Told {
@@ -48,16 +63,22 @@ pub struct Told {
 
 /// Tries all histories, the second implementation with a fault or without, and
 /// stops at the first difference.
-pub fn compare(fault: Fault) -> Result<Told, Box<Difference>> {
+pub fn compare(by: By, fault: Fault) -> Result<Told, Box<Difference>> {
     let mut told = Told::default();
-    for h in LENGTHS {
+    let lengths = match by {
+        By::OldIndex => LENGTHS.as_slice(),
+        By::NewIndex => &NEW_LENGTHS,
+        By::ChangeOver => &CHANGED_LENGTHS,
+    };
+    let try_one = &mut |next, stored| ask(by, next, stored, fault, &mut told);
+    for &h in lengths {
         let mut places = vec![0, 1, 63, 64, 65, h - 1];
         places.retain(|&next| next < h);
         places.dedup();
         for next in places {
-            climbs(h, &mut |stored| ask(next, stored, fault, &mut told))?;
+            climbs(h, &mut |stored| try_one(next, stored))?;
             for at in edges(h, next) {
-                bends(h, at, &mut |stored| ask(next, stored, fault, &mut told))?;
+                bends(h, at, &mut |stored| try_one(next, stored))?;
             }
         }
     }
@@ -123,9 +144,10 @@ fn edges(h: usize, next: usize) -> Vec<usize> {
     (1..h).filter(chosen).collect()
 }
 
-/// Reads the index over this history on both sides, at a last tick that no
-/// stored tick is after, and compares.
+/// Reads the index over this history on both sides, or takes it over, at a last
+/// tick that no stored tick is after, and compares.
 fn ask(
+    by: By,
     next: usize,
     mut stored: Vec<u64>,
     fault: Fault,
@@ -135,26 +157,23 @@ fn ask(
     let greatest = stored.iter().max().expect("H is not 0");
     let last = greatest.saturating_sub(1);
     stored.rotate_right(next);
-    let mut head = [0; 22];
-    head[LAST] = last;
-    head[PLACE] = next as u64;
-    let state = State {
-        head,
-        counters: vec![0; 2_048],
-        ticks: stored,
-        rows: vec![0; h],
-        threads: vec![0; 3],
-    };
     let mark = u64::from(h <= 1_024);
     let setting = [1 << 29, 1, 64, 1, 16 * h as u64, 1 << 24, 255, 1, 1, mark];
+    let limits = if by == By::NewIndex { NEW } else { OLD };
+    let mut lent = Lent::exact(limits, setting, house_seeds());
+    lent.state.head[LAST] = last;
+    lent.state.head[PLACE] = next as u64;
+    lent.state.ticks = stored;
     let call = Call {
         kind: Kind::Index,
         tick: last,
         ..Call::SETUP
     };
-    let number = Pair::new(setting, house_seeds(), state, fault)
-        .call(&call)?
-        .number;
+    let mut pair = Pair::new(lent, fault);
+    let number = match by {
+        By::ChangeOver => pair.change_over(&[0; 2_048])?.0,
+        _ => pair.call(&call)?.number,
+    };
     match number {
         0 | 9 => told.sound += 1,
         7 => told.unsound += 1,

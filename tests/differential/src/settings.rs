@@ -1,11 +1,12 @@
 //! Settings for the tests: small ones, medium ones, those of real chips, and
-//! those that stand at the bounds.
+//! those that stand at the bounds of a width.
 
 use crate::near_house::changed;
 use crate::numbers::Numbers;
 use crate::profiles::NO_PROFILE;
+use crate::wide::WIDE_BASES;
 use second::setting::{accept, history_length, house_seeds, row_bound};
-use second::{Config, Setting};
+use second::{Config, Limits, Setting, NEW, OLD};
 
 /// A field of the setting by its place.
 pub const W: usize = 0;
@@ -19,12 +20,12 @@ pub const BANKS: usize = 7;
 pub const THREADS: usize = 8;
 pub const MARK: usize = 9;
 
-/// Least and greatest value of each field.
+/// Least and greatest value of each field; of N the greatest is the width's.
 const RANGES: [(u64, u64); 10] = [
     (2, 1 << 30),
     (1, 65_535),
     (1, 65_535),
-    (1, 32_768),
+    (1, OLD.threshold),
     (1, 1 << 29),
     (1, 1 << 24),
     (1, 255),
@@ -33,8 +34,8 @@ const RANGES: [(u64, u64); 10] = [
     (0, 1),
 ];
 
-/// Accepted settings in which each field that can stands at its bounds; those
-/// with mark 1 have four banks or 1,024 history places.
+/// Settings accepted in both widths, in which each field that can stands at the
+/// old width's bounds; those with mark 1 have four banks or 1,024 history places.
 pub const BASES: [Setting; 10] = [
     [40, 1, 4, 2, 6, 10, 4, 1, 1, 0],
     [4, 1, 1, 1, 2, 3, 1, 1, 1, 0],
@@ -59,9 +60,17 @@ pub const BASES: [Setting; 10] = [
     [40, 1, 4, 2, 6, 10, 4, 4, 1, 1],
 ];
 
-/// Is this setting accepted, with any 64 seeds?
-pub fn accepted(setting: &Setting) -> bool {
-    accept(&Config::new(*setting, &[0; 64])).is_ok()
+/// The base settings of a width.
+pub fn bases(limits: &Limits) -> Vec<Setting> {
+    if *limits == NEW {
+        return [BASES.as_slice(), &WIDE_BASES].concat();
+    }
+    BASES.to_vec()
+}
+
+/// Is this setting accepted in a width, with any 64 seeds?
+pub fn accepted(limits: &Limits, setting: &Setting) -> bool {
+    accept(&Config::new(*setting, &[0; 64]).within(*limits)).is_ok()
 }
 
 /// The row bound B, where it is defined.
@@ -70,9 +79,13 @@ pub fn bound(setting: &Setting) -> Option<u64> {
 }
 
 /// The history length H, for a setting that is not accepted 1 to 4,096.
-pub fn history(setting: &Setting) -> usize {
+pub fn history(limits: &Limits, setting: &Setting) -> usize {
     let length = history_length(&Config::new(*setting, &[]));
-    length.map_or(4_096, |length| length.clamp(1, 4_096)) as usize
+    match length {
+        Some(length) if length > 4_096 && accepted(limits, setting) => length as usize,
+        Some(length) => length.clamp(1, 4_096) as usize,
+        None => 4_096,
+    }
 }
 
 /// A small setting, nearly always accepted by both profiles.
@@ -106,7 +119,7 @@ pub fn medium(numbers: &mut Numbers) -> Setting {
     limited(numbers, [w, trc, tfaw, n, td, 1, q, banks, threads, mark])
 }
 
-/// A large accepted setting: that of a chip, or any.
+/// A large setting accepted in both widths: that of a chip, or any.
 pub fn large(numbers: &mut Numbers) -> Setting {
     if numbers.one_in(2) {
         return numbers.pick(&BASES[2..7]);
@@ -119,9 +132,9 @@ pub fn large(numbers: &mut Numbers) -> Setting {
     let (banks, threads) = (numbers.within(1, 16), numbers.within(1, 32));
     let setting = limited(numbers, [w, trc, tfaw, n, td, 1, 255, banks, threads, 0]);
     let small = with(&setting, MARK, 1);
-    if accepted(&small) && numbers.one_in(2) {
+    if accepted(&OLD, &small) && numbers.one_in(2) {
         small
-    } else if accepted(&setting) {
+    } else if accepted(&OLD, &setting) {
         setting
     } else {
         BASES[2]
@@ -140,40 +153,43 @@ pub fn limited(numbers: &mut Numbers, mut setting: Setting) -> Setting {
     setting
 }
 
-/// Every base setting with both marks, and each of them with one field at, next
-/// to and far from its bounds, and with the numbers of refusals 2 to 5 and 16 at
-/// and next to theirs.
-pub fn at_bounds() -> Vec<Setting> {
+/// Every base setting of a width with both marks, and each of them with one field
+/// at, next to and far from its bounds, and with the numbers of refusals 2 to 5
+/// and 16 at and next to theirs.
+pub fn at_bounds(limits: &Limits) -> Vec<Setting> {
     let mut settings = Vec::new();
     let other = |base: &Setting| with(base, MARK, 1 - base[MARK]);
-    for base in BASES.iter().flat_map(|base| [*base, other(base)]) {
+    for base in bases(limits).iter().flat_map(|base| [*base, other(base)]) {
         settings.push(base);
         for field in 0..10 {
-            for value in edges(field) {
+            for value in edges(limits, field) {
                 settings.push(with(&base, field, value));
             }
         }
-        settings.extend(relations(&base));
+        settings.extend(relations(limits, &base));
     }
     settings
 }
 
 /// A base setting with one to three fields changed to values near bounds.
-pub fn mixed(numbers: &mut Numbers) -> Setting {
-    let mut setting = numbers.pick(&BASES);
+pub fn mixed(numbers: &mut Numbers, limits: &Limits) -> Setting {
+    let mut setting = numbers.pick(&bases(limits));
     if numbers.one_in(3) {
-        setting = numbers.pick(&relations(&setting));
+        setting = numbers.pick(&relations(limits, &setting));
     }
     for _ in 0..numbers.within(1, 3) {
         let field = numbers.within(0, 9) as usize;
-        setting[field] = numbers.pick(&edges(field));
+        setting[field] = numbers.pick(&edges(limits, field));
     }
     setting
 }
 
 /// Values of a field around its bounds, and some that only 64 bits hold.
-fn edges(field: usize) -> Vec<u64> {
-    let (low, high) = RANGES[field];
+fn edges(limits: &Limits, field: usize) -> Vec<u64> {
+    let (low, high) = match field {
+        N => (1, limits.threshold),
+        _ => RANGES[field],
+    };
     if field == MARK {
         return [&[low, high], NO_PROFILE.as_slice()].concat();
     }
@@ -190,7 +206,7 @@ fn edges(field: usize) -> Vec<u64> {
 }
 
 /// The setting with one field changed.
-fn with(setting: &Setting, field: usize, value: u64) -> Setting {
+pub fn with(setting: &Setting, field: usize, value: u64) -> Setting {
     let mut changed = *setting;
     changed[field] = value;
     changed
@@ -198,17 +214,18 @@ fn with(setting: &Setting, field: usize, value: u64) -> Setting {
 
 /// The setting with W, tD, tFAW, L or the banks at and next to the bounds of
 /// refusals 2 to 5 and 16.
-fn relations(base: &Setting) -> Vec<Setting> {
+fn relations(limits: &Limits, base: &Setting) -> Vec<Setting> {
     let free = 2 * base[N] * base[TRC];
+    let gaps = limits.history / 4;
     let mut settings = Vec::new();
     for near in [0, 1, 2, 3, 4] {
         settings.push(with(base, W, (free + near).saturating_sub(2)));
-        for td in [base[TRC], base[W] / 2, 1_024 * base[TFAW], 256 * base[TFAW]] {
+        for td in [base[TRC], base[W] / 2, gaps * base[TFAW], 256 * base[TFAW]] {
             settings.push(with(base, TD, (td + near).saturating_sub(2)));
             let wide = with(base, TD, (td + near).saturating_sub(2));
             settings.push(with(&wide, L, 1 << 24));
         }
-        for short in [base[TD].div_ceil(1_024), base[TD].div_ceil(256)] {
+        for short in [base[TD].div_ceil(gaps), base[TD].div_ceil(256)] {
             settings.push(with(base, TFAW, (short + near).saturating_sub(2)));
         }
         settings.push(with(base, BANKS, 2 + near));

@@ -2,19 +2,27 @@
 //! memory, and the second implementation on memory of its own.
 
 use crate::call::{Answer, Call, Kind};
+use crate::lent::Lent;
 use crate::library;
-use crate::memory::Memory;
-use second::{done, index, request, setup, Config, Fault, Setting, State};
+use crate::memory::{Counters, Guarded, Memory};
+use second::{change_over, done, index, request, setup, Fault, State, NEW};
 
 /// What out holds before a call.
 const OUT: [u64; 3] = [0x1111_2222, 0x3333_4444, 0x5555_6666];
 
-/// Something that answers the four calls.
+/// Something that answers the calls of a width.
 pub trait Side {
     fn call(&mut self, call: &Call) -> Answer;
 
     /// A copy of its memory.
     fn state(&self) -> State;
+}
+
+/// A side of the old width, which can be taken over.
+pub trait Saved: Side + Sized {
+    /// The same memory in the new width, with these new counters as the change-over
+    /// leaves them, or the number of the refusal.
+    fn change_over(&mut self, counters: &[u32]) -> Result<Self, u32>;
 }
 
 /// The compiled library.
@@ -23,9 +31,9 @@ pub struct Library {
 }
 
 impl Library {
-    pub fn new(setting: &Setting, seeds: &[u16], state: &State) -> Self {
+    pub fn new(lent: &Lent) -> Self {
         Library {
-            memory: Memory::new(setting, seeds, state),
+            memory: Memory::new(&lent.limits, &lent.setting, &lent.seeds, &lent.state),
         }
     }
 }
@@ -44,7 +52,7 @@ impl Side for Library {
         head.copy_from_slice(self.memory.head.cells());
         State {
             head,
-            counters: self.memory.counters.cells().to_vec(),
+            counters: self.memory.counters.numbers(),
             ticks: self.memory.ticks.cells().to_vec(),
             rows: self.memory.rows.cells().to_vec(),
             threads: self.memory.threads.cells().to_vec(),
@@ -52,18 +60,31 @@ impl Side for Library {
     }
 }
 
+impl Saved for Library {
+    fn change_over(&mut self, counters: &[u32]) -> Result<Self, u32> {
+        let mut counters = Guarded::new(counters);
+        match library::change_over(&self.memory, &mut counters) {
+            0 => Ok(Library {
+                memory: Memory {
+                    counters: Counters::New(counters),
+                    ..self.memory.clone()
+                },
+            }),
+            number => Err(number),
+        }
+    }
+}
+
 /// The second implementation, with a fault or without.
+#[derive(Clone)]
 pub struct Second {
-    pub setting: Setting,
-    pub seeds: Vec<u16>,
+    pub lent: Lent,
     pub fault: Fault,
-    pub state: State,
 }
 
 impl Side for Second {
     fn call(&mut self, call: &Call) -> Answer {
-        let config = Config::new(self.setting, &self.seeds).with(self.fault);
-        let state = &mut self.state;
+        let (config, state) = self.lent.parts(self.fault);
         let (tick, bank, thread) = (call.tick, call.bank, call.thread);
         let mut out = OUT;
         let number = match call.kind {
@@ -76,6 +97,21 @@ impl Side for Second {
     }
 
     fn state(&self) -> State {
-        self.state.clone()
+        self.lent.state.clone()
+    }
+}
+
+impl Saved for Second {
+    fn change_over(&mut self, counters: &[u32]) -> Result<Self, u32> {
+        let mut counters = counters.to_vec();
+        let (config, state) = self.lent.parts(self.fault);
+        let number = change_over(&config, state, &mut counters);
+        if number != 0 {
+            return Err(number);
+        }
+        let mut wide = self.clone();
+        wide.lent.limits = NEW;
+        wide.lent.state.counters = counters;
+        Ok(wide)
     }
 }

@@ -4,6 +4,7 @@
 use crate::call::{Answer, Call, Kind};
 use crate::mark_tally::MarkTally;
 use crate::settings::{L, N, Q, W};
+use crate::width_tally::WidthTally;
 use second::Setting;
 use std::cmp::Ordering;
 use std::fmt;
@@ -53,6 +54,7 @@ pub struct Tally {
     answers: [u64; 5],
     events: [u64; 26],
     pub marks: MarkTally,
+    pub widths: WidthTally,
 }
 
 /// What a call's thread has before the call.
@@ -207,6 +209,7 @@ impl Tally {
             }
         }
         missed.extend(self.marks.missed());
+        missed.extend(self.widths.missed());
         missed
     }
 }
@@ -234,6 +237,6 @@ impl fmt::Display for Tally {
         for (name, count) in EVENTS.iter().zip(self.events) {
             write!(f, "\n  {name}: {count}")?;
         }
-        write!(f, "{}", self.marks)
+        write!(f, "{}{}", self.marks, self.widths)
     }
 }

@@ -2,20 +2,21 @@
 //! the same number, the same out and the same memory with mark 1 and with mark 0.
 
 use crate::call::{Call, Kind};
-use crate::contents::{fill_any, fill_near, lent};
+use crate::contents::{fill_any, fill_near};
+use crate::lent::Lent;
 use crate::numbers::Numbers;
 use crate::profiles::near;
 use crate::settings::{accepted, seeds, small, BANKS, MARK, TD, THREADS, W};
 use crate::side::Side;
 use second::state::LAST;
-use second::{Setting, State};
+use second::{Limits, Setting};
 
 /// Settings that are tried; not all of them are taken by the small profile.
 const RUNS: u64 = 3_000;
 /// Calls on each.
 const CALLS: u64 = 20;
 /// Rows that are asked for.
-const ROWS: [u16; 4] = [0, 5, 6, 65_535];
+pub const ROWS: [u16; 4] = [0, 5, 6, 65_535];
 
 /// Settings taken by the small profile, and calls that were answered.
 #[derive(Debug, Default)]
@@ -24,11 +25,12 @@ pub struct Told {
     pub answered: u64,
 }
 
-/// Tries settings on sides that are made from a setting, seeds and memory, and
+/// Tries settings of a width on sides that are made from what they work on, and
 /// stops at the first difference.
 pub fn compare<S: Side>(
     seed: u64,
-    make: impl Fn(&Setting, &[u16], &State) -> S,
+    limits: Limits,
+    make: impl Fn(&Lent) -> S,
 ) -> Result<Told, String> {
     let numbers = &mut Numbers::new(seed);
     let mut told = Told::default();
@@ -39,30 +41,28 @@ pub fn compare<S: Side>(
             small(numbers)
         };
         setting[MARK] = 1;
-        if !accepted(&setting) {
+        if !accepted(&limits, &setting) {
             continue;
         }
         told.settings += 1;
         let seeds = seeds(numbers);
-        let state = memory(numbers, &setting, &seeds);
-        let mut one = make(&setting, &seeds, &state);
-        let mut large = setting;
-        large[MARK] = 0;
-        let mut two = make(&large, &seeds, &state);
+        let mut lent = Lent::cleared(numbers, limits, setting, seeds);
+        fill(numbers, &mut lent);
+        let mut one = make(&lent);
+        lent.setting[MARK] = 0;
+        let mut two = make(&lent);
         told.answered += same(numbers, &setting, &mut one, &mut two)?;
     }
     Ok(told)
 }
 
-/// Memory of any contents, or of odd ones that are mostly sound.
-fn memory(numbers: &mut Numbers, setting: &Setting, seeds: &[u16]) -> State {
-    let mut state = lent(numbers, setting);
+/// Fills memory with any contents, or with odd ones that are mostly sound.
+fn fill(numbers: &mut Numbers, lent: &mut Lent) {
     if numbers.one_in(8) {
-        fill_any(numbers, setting, &mut state);
+        fill_any(numbers, lent);
     } else {
-        fill_near(numbers, setting, seeds, &ROWS, &mut state);
+        fill_near(numbers, &ROWS, lent);
     }
-    state
 }
 
 /// Makes the same calls to both sides; how many were answered.
@@ -88,7 +88,7 @@ fn same<S: Side>(
 }
 
 /// A call at or after the last tick, rarely before it or outside the setting.
-fn any_call(numbers: &mut Numbers, setting: &Setting, last: u64) -> Call {
+pub fn any_call(numbers: &mut Numbers, setting: &Setting, last: u64) -> Call {
     let step = match numbers.within(0, 9) {
         0..=6 => numbers.within(0, 1),
         7 => setting[TD],

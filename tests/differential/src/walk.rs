@@ -170,7 +170,7 @@ impl Walk {
         let word = (call.bank % 65_536) as u32 * 65_536 + u32::from(call.row);
         let places = memory.ticks.cells().iter().zip(memory.rows.cells());
         let newest = places
-            .take(history(setting))
+            .take(history(pair.limits(), setting))
             .filter(|(_, &row)| row == word)
             .map(|(&stored, _)| stored)
             .max();
@@ -194,9 +194,8 @@ impl Walk {
         }
         let next = last / epoch + 1;
         let filter = call.bank as usize % 16 * 2_048 + (next % 2) as usize * 1_024;
-        let counters = memory.counters.cells();
         let places = hash(seeds, call.row).map(|place| filter + place % 1_024);
-        let least = places.map(|place| counters.get(place).copied().unwrap_or(0));
+        let least = places.map(|place| memory.counters.get(place).unwrap_or(0));
         let tick = next * epoch - self.numbers.within(1, 2_000).min(epoch);
         let free = least.iter().any(|&counter| u64::from(counter) < setting[N]);
         (free && tick >= last).then_some(tick)

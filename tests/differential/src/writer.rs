@@ -9,7 +9,7 @@ use crate::profiles::{mark, near};
 use crate::settings::{mixed, odd_seeds, seeds, small, MARK};
 use second::log::BLOCK;
 use second::write::start;
-use second::{Config, Fault, Setting};
+use second::{Config, Fault, Setting, NEW};
 
 /// Blocks that are tried.
 const BLOCKS: u64 = 20_000;
@@ -63,7 +63,7 @@ fn any(numbers: &mut Numbers) -> Setting {
     let mut setting = match numbers.within(0, 2) {
         0 => small(numbers),
         1 => near(numbers),
-        _ => mixed(numbers),
+        _ => mixed(numbers, &NEW),
     };
     if numbers.one_in(2) {
         setting[MARK] = mark(numbers);

@@ -4,7 +4,7 @@
 use crate::decision::Call;
 use crate::fault::Fault;
 use crate::setting::Rules;
-use crate::state::{thread_cell, State, IN_FLIGHT, LAST};
+use crate::state::{filter_start, thread_cell, State, IN_FLIGHT, LAST};
 
 /// The epoch of a tick: floor(t/E).
 fn epoch(rules: &Rules, tick: u64) -> u64 {
@@ -54,8 +54,13 @@ pub fn move_clock(rules: &Rules, state: &mut State, call: &Call) {
 
 /// Clears one filter of one bank and every thread's index counter with it.
 fn clear_filter(rules: &Rules, state: &mut State, bank: usize, filter: usize) {
-    let start = bank * 2048 + filter * 1024;
-    state.counters[start..start + 1024].fill(0);
+    let start = filter_start(rules, bank, filter);
+    let many = if rules.has_wide(Fault::WideTurnClearsHalf) {
+        512
+    } else {
+        1024
+    };
+    state.counters[start..start + many].fill(0);
     for thread in 0..rules.threads {
         let cell = thread_cell(rules, bank, thread);
         if !rules.has(Fault::KeepsIndexAtTurn) {

@@ -7,7 +7,7 @@ use crate::fault::Fault;
 use crate::filter::{count, counters, estimate};
 use crate::quota::{add_in_flight, held};
 use crate::setting::Rules;
-use crate::state::{thread_cell, State, BANK, PLACE, RANK};
+use crate::state::{thread_cell, State, BANK, FEW, PLACE, RANK};
 
 /// Answers of a request.
 pub const OPENED: u64 = 0;
@@ -35,7 +35,7 @@ struct View<'a> {
     /// Stored tick of the rank's fourth last activation.
     rank: u64,
     /// The row's four counters in filter 0 and 1.
-    counters: [[u16; 4]; 2],
+    counters: [[u32; 4]; 2],
     /// Ticks of every activation of the row in the history buffer.
     activations: &'a [u64],
 }
@@ -103,7 +103,12 @@ impl View<'_> {
 pub fn activations(rules: &Rules, state: &State, bank: usize, row: u16) -> Vec<u64> {
     let wanted = row_word(bank, row);
     let mut found = Vec::new();
-    for place in 0..rules.h {
+    let places = if rules.has_wide(Fault::WideSearchStops) {
+        rules.h.min(FEW)
+    } else {
+        rules.h
+    };
+    for place in 0..places {
         let (stored, word) = (state.ticks[place], state.rows[place]);
         let same = if rules.has(Fault::HistoryForgetsBank) {
             word % 65_536 == wanted % 65_536
@@ -228,10 +233,10 @@ fn keep(rules: &Rules, state: &mut State, stored: u64, word: u32) {
     let place = state.head[PLACE] as usize;
     state.ticks[place] = stored;
     state.rows[place] = word;
-    let top = if rules.has(Fault::PlaceWrapsAtH) {
-        rules.h
-    } else {
-        rules.h - 1
+    let top = match rules.fault {
+        Fault::PlaceWrapsAtH => rules.h,
+        Fault::WidePlaceWraps if rules.wide => rules.h.min(FEW) - 1,
+        _ => rules.h - 1,
     };
-    state.head[PLACE] = if place == top { 0 } else { place as u64 + 1 };
+    state.head[PLACE] = if place >= top { 0 } else { place as u64 + 1 };
 }

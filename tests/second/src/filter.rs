@@ -3,7 +3,7 @@
 
 use crate::fault::Fault;
 use crate::setting::Rules;
-use crate::state::State;
+use crate::state::{filter_start, State};
 use crate::table;
 
 /// The seed rule, which gives a row's four counters under any seeds: function f
@@ -57,11 +57,26 @@ pub fn count(rules: &Rules, state: &mut State, bank: usize, row: u16) {
             if seen && !rules.has(Fault::AddsTwiceToShared) {
                 continue;
             }
-            let cell = &mut state.counters[bank * 2048 + filter * 1024 + place];
-            let at_n = rules.has(Fault::CountsAtThreshold) && u64::from(*cell) == rules.n;
-            if u64::from(*cell) < rules.n || at_n {
-                *cell += 1;
-            }
+            raise(
+                rules,
+                &mut state.counters[filter_start(rules, bank, filter) + place],
+            );
+        }
+    }
+}
+
+/// A counter gains 1 if it is below N.
+fn raise(rules: &Rules, counter: &mut u32) {
+    let top = match rules.fault {
+        Fault::CountsAtThreshold => rules.n + 1,
+        Fault::WideStopsAt65535 if rules.wide => rules.n.min(65_535),
+        Fault::WideStopsAt32768 if rules.wide => rules.n.min(32_768),
+        _ => rules.n,
+    };
+    if u64::from(*counter) < top {
+        *counter += 1;
+        if rules.has_wide(Fault::WideWritesLowHalf) {
+            *counter %= 65_536;
         }
     }
 }
@@ -72,15 +87,21 @@ pub fn counters(
     state: &State,
     (bank, filter): (usize, usize),
     row: u16,
-) -> [u16; 4] {
-    let start = bank * 2048 + filter * 1024;
+) -> [u32; 4] {
+    let start = filter_start(rules, bank, filter);
     let places = places_for(rules, row, Fault::HouseAlwaysInEstimate);
-    places.map(|place| state.counters[start + place])
+    places.map(|place| {
+        let counter = state.counters[start + place];
+        if rules.has_wide(Fault::WideReadsLowHalf) {
+            return counter % 65_536;
+        }
+        counter
+    })
 }
 
 /// The estimate that a filter reports of a row: the least of the row's four
 /// counters in it.
-pub fn estimate(four: [u16; 4]) -> u64 {
+pub fn estimate(four: [u32; 4]) -> u64 {
     let [first, second, third, fourth] = four.map(u64::from);
     first.min(second).min(third).min(fourth)
 }

@@ -25,6 +25,7 @@ pub fn left(rules: &Rules, state: &State, call: &Call, row: u16, last: u64) -> u
         Fault::LeftWraps => rules.n.wrapping_sub(estimate),
         Fault::LeftOneLess => rules.n.saturating_sub(estimate + 1),
         Fault::LeftCutToByte => rules.n.saturating_sub(estimate) % 256,
+        Fault::WideLeftCut if rules.wide => rules.n.saturating_sub(estimate) % 65_536,
         _ if estimate > rules.n => 0,
         _ => rules.n - estimate,
     }
@@ -43,7 +44,7 @@ fn filter(rules: &Rules, call: &Call, last: u64) -> (usize, usize) {
 }
 
 /// The estimate from the row's four counters.
-fn reported(rules: &Rules, four: [u16; 4]) -> u64 {
+fn reported(rules: &Rules, four: [u32; 4]) -> u64 {
     let [first, second, third, fourth] = four.map(u64::from);
     match rules.fault {
         Fault::LeftOfFirstPlace => first,

@@ -3,6 +3,7 @@
 //! comparison: every rule is spelled out the slow way, so that a reader can
 //! hold it against the text.
 //!
+//! - `limits`: the two widths and what a setting may have at most in each
 //! - `setting`: the setting, its derived numbers and refusals 1 to 5 and 16
 //! - `profile`: the profile mark and what a profile has at most
 //! - `state`: the lent memory and refusals 6 and 7
@@ -13,20 +14,23 @@
 //! - `left`: the openings left that a request reports
 //! - `quota`: the quota rule, the thread's total in flight and what a done takes
 //! - `model`: the four calls (set-up, request, done, index)
+//! - `change`: the change-over, which takes a saved state to the new width
 //! - `log`: the log checker
 //! - `write`: the log writer and an encoder for logs
 //! - `plan`: the planner, that is the delays with which a setting is accepted
 //! - `fault`: wrong behaviours that can be switched on, one at a time, made by
-//!   `listing` from one list
+//!   `listing` from the lists under `fault`
 
 #[macro_use]
 mod listing;
 
+pub mod change;
 mod clock;
 pub mod decision;
 pub mod fault;
 pub mod filter;
 mod left;
+pub mod limits;
 pub mod log;
 pub mod model;
 pub mod plan;
@@ -37,7 +41,9 @@ pub mod state;
 pub mod table;
 pub mod write;
 
+pub use change::change_over;
 pub use fault::Fault;
+pub use limits::{Limits, NEW, OLD};
 pub use model::{done, index, request, setup};
 pub use setting::{Config, Setting};
 pub use state::State;

@@ -1,4 +1,4 @@
-//! Makes the enum of wrong behaviours from one listing, part by part.
+//! Makes the enum of wrong behaviours from listings in several files, part by part.
 
 /// Lists the variants once, for the enum, for `Fault::ALL` and for its parts.
 macro_rules! faults {
@@ -17,5 +17,14 @@ macro_rules! faults {
             pub const ALL: &'static [Fault] = &[$($(Fault::$name,)*)*];
             $(pub const $part: &'static [Fault] = &[$(Fault::$name,)*];)*
         }
+    };
+}
+
+/// Joins listings. Each is a macro of its own file, which adds its parts to those
+/// listed so far and hands them on to the next.
+macro_rules! joined {
+    ([] { $($listed:tt)* }) => { faults! { $($listed)* } };
+    ([$first:ident $($rest:ident)*] { $($listed:tt)* }) => {
+        $first! { [$($rest)*] { $($listed)* } }
     };
 }

@@ -1,8 +1,9 @@
 //! The log checker: reads a log of 512-byte blocks, runs its records through
-//! the throttle and reports whether the log agrees with the rules.
+//! the throttle of the old width and reports whether the log agrees with the rules.
 
 use crate::decision::OPENED;
 use crate::fault::Fault;
+use crate::limits::of_checker;
 use crate::model::{done, request, setup};
 use crate::profile::{LARGE, SMALL};
 use crate::setting::{accept, Config, Setting, MARK};
@@ -239,6 +240,7 @@ impl Run {
         let config = Config {
             setting: at_start(setting, fault),
             seeds: &seeds,
+            limits: of_checker(fault),
             fault,
         };
         let mut state = State::cleared(&accept(&config).map_err(|number| told(number, fault))?);
@@ -262,6 +264,7 @@ impl Run {
         let config = Config {
             setting: self.setting,
             seeds: &self.seeds,
+            limits: of_checker(self.fault),
             fault: self.fault,
         };
         let (bank, thread) = (u64::from(record.bank), u64::from(record.thread));

@@ -1,6 +1,6 @@
-//! The four calls of the throttle: set-up, request, done and index. Each
-//! returns 0 when answered, else the number of the refusal, and then changes
-//! nothing.
+//! The four calls of the throttle: set-up, request, done and index, in the width
+//! whose limits they are given. Each returns 0 when answered, else the number of
+//! the refusal, and then changes nothing.
 
 use crate::clock::move_clock;
 use crate::decision::{decide, open};
@@ -8,18 +8,21 @@ use crate::decision::{Call, OPENED, QUOTA, WAIT_BANK, WAIT_ROW};
 use crate::fault::Fault;
 use crate::filter::count;
 use crate::left::{held_back, left, too_early};
+use crate::limits::{is_wide, of_call};
 use crate::profile::above_small;
 use crate::quota::{index_counter, none_in_flight, quota_in_test, take_in_flight};
 use crate::setting::{accept, accept_but_16, Config, Rules};
 use crate::state::{State, LAST};
 
-/// Which of the four calls.
+/// Which call: one of the four, the change-over or the planner.
 #[derive(Clone, Copy, PartialEq, Eq)]
-enum Kind {
+pub enum Kind {
     Setup,
     Request,
     Done,
     Index,
+    ChangeOver,
+    Plan,
 }
 
 /// Set-up: clears the used parts of the lent memory and the head.
@@ -134,7 +137,8 @@ pub fn index(
 
 /// The refusals of the setting, 1 to 5 and 16, and 6, in their order.
 fn lent<'a>(config: &Config<'a>, state: &State, kind: Kind) -> Result<Rules<'a>, u32> {
-    let rules = if leaves_16_out(config.fault, kind) {
+    let config = &config.within(of_call(config, kind));
+    let rules = if leaves_16_out(config, kind) {
         accept_but_16(config)?
     } else {
         accept(config)?
@@ -151,8 +155,9 @@ fn lent<'a>(config: &Config<'a>, state: &State, kind: Kind) -> Result<Rules<'a>,
 }
 
 /// Does a call test 16 later or never (only as a fault)?
-fn leaves_16_out(fault: Fault, kind: Kind) -> bool {
-    match fault {
+fn leaves_16_out(config: &Config, kind: Kind) -> bool {
+    match config.fault {
+        Fault::WideSixteenLeftOut => is_wide(config),
         Fault::ProfileAfterSix | Fault::ProfileAfterSeven | Fault::ProfileAfterNine => true,
         Fault::ProfileInSetupOnly => kind != Kind::Setup,
         Fault::ProfileNotInSetup => kind == Kind::Setup,
@@ -164,7 +169,7 @@ fn leaves_16_out(fault: Fault, kind: Kind) -> bool {
 }
 
 /// Refusal 16 at the place where this fault tests it.
-fn late_16(config: &Config, fault: Fault) -> Result<(), u32> {
+pub fn late_16(config: &Config, fault: Fault) -> Result<(), u32> {
     if config.fault == fault && above_small(config) {
         return Err(16);
     }

@@ -1,8 +1,10 @@
-//! The planner: the delays tD with which a setting is accepted. The setting's
-//! own delay plays no part, and neither do the seeds.
+//! The planner: the delays tD with which a setting is accepted in a width. The
+//! setting's own delay plays no part, and neither do the seeds.
 
 use crate::fault::Fault;
-use crate::profile::{Profile, LARGE, OF_LARGE, OF_SMALL, SMALL};
+use crate::limits::{is_wide, of_call, Limits, OLD};
+use crate::model::Kind;
+use crate::profile::{of_large, Profile, LARGE, OF_SMALL, SMALL};
 use crate::setting::{accept, history_length, row_bound, Config, Setting, BANKS, MARK, TD};
 
 /// The greatest delay in range.
@@ -17,14 +19,18 @@ const MOST_DELAY: u64 = 1 << 29;
 ///   where no delay in range has B <= L.
 pub fn delays(config: &Config, out: &mut [u64; 2]) -> u32 {
     let setting = taken(config);
-    let always = refusal(&with_delay(&setting, 1));
+    let limits = of_call(config, Kind::Plan);
+    let always = refusal(&with_delay(&setting, 1), &limits);
     if always == 1 || always == 2 {
         return always;
     }
-    let (own, large) = (
-        between(&setting, &limits(&setting, config.fault)),
-        between(&setting, &OF_LARGE),
-    );
+    let own = between(&setting, &of_profile(&setting, &limits, config));
+    // The limits that tell why no delay is accepted. Only a fault takes others.
+    let telling = match config.fault {
+        Fault::PlanWideSixteenByOld if is_wide(config) => OLD,
+        _ => limits,
+    };
+    let large = between(&setting, &of_large(&telling));
     match (own, large, config.fault) {
         (Some(_), Some(large), Fault::PlanDelaysOfLarge) => {
             *out = large;
@@ -38,7 +44,7 @@ pub fn delays(config: &Config, out: &mut [u64; 2]) -> u32 {
             *out = large;
             16
         }
-        _ => none_accepted(&setting, large.is_some(), config.fault),
+        _ => none_accepted(&setting, &telling, large.is_some(), config.fault),
     }
 }
 
@@ -56,17 +62,22 @@ fn taken(config: &Config) -> Setting {
 }
 
 /// What the setting's profile has at most.
-fn limits(setting: &Setting, fault: Fault) -> Profile {
+fn of_profile(setting: &Setting, limits: &Limits, config: &Config) -> Profile {
+    let large = of_large(limits);
     if setting[MARK] == LARGE {
-        return OF_LARGE;
+        return large;
     }
-    match fault {
+    match config.fault {
         Fault::PlanBanksIgnored => Profile {
-            banks: OF_LARGE.banks,
+            banks: large.banks,
             ..OF_SMALL
         },
         Fault::PlanHistoryIgnored => Profile {
-            history: OF_LARGE.history,
+            history: large.history,
+            ..OF_SMALL
+        },
+        Fault::PlanWideSmallScaled if is_wide(config) => Profile {
+            history: 8 * OF_SMALL.history,
             ..OF_SMALL
         },
         Fault::PlanFullHistoryLeftOut => Profile {
@@ -79,23 +90,23 @@ fn limits(setting: &Setting, fault: Fault) -> Profile {
 
 /// The number where no delay is accepted; `large` says whether one is with mark
 /// 0.
-fn none_accepted(setting: &Setting, large: bool, fault: Fault) -> u32 {
+fn none_accepted(setting: &Setting, limits: &Limits, large: bool, fault: Fault) -> u32 {
     let small = setting[MARK] == SMALL;
     let mut plain = *setting;
     plain[MARK] = LARGE;
     match fault {
         Fault::PlanSixteenAlways if small => 16,
-        Fault::PlanOfSmallestDelay if small => of_smallest(setting),
+        Fault::PlanOfSmallestDelay if small => of_smallest(setting, limits),
         Fault::PlanFourForSixteen if large => 4,
         _ if large => 16,
-        _ => of_smallest(&plain),
+        _ => of_smallest(&plain, limits),
     }
 }
 
 /// The refusal of the smallest delay with B <= L, 5 if there is none.
-fn of_smallest(setting: &Setting) -> u32 {
+fn of_smallest(setting: &Setting, limits: &Limits) -> u32 {
     least(|delay| within_limit(setting, delay))
-        .map_or(5, |delay| refusal(&with_delay(setting, delay)))
+        .map_or(5, |delay| refusal(&with_delay(setting, delay), limits))
 }
 
 /// The least and the greatest delay that meet tRC, W/2, B <= L and the limits of
@@ -144,6 +155,7 @@ fn with_delay(setting: &Setting, delay: u64) -> Setting {
 }
 
 /// The refusal of a setting with seeds in range, 0 if it is accepted.
-fn refusal(setting: &Setting) -> u32 {
-    accept(&Config::new(*setting, &[0; 64])).err().unwrap_or(0)
+fn refusal(setting: &Setting, limits: &Limits) -> u32 {
+    let config = Config::new(*setting, &[0; 64]).within(*limits);
+    accept(&config).err().unwrap_or(0)
 }

@@ -2,6 +2,7 @@
 //! most, and refusal 16.
 
 use crate::fault::Fault;
+use crate::limits::{is_wide, Limits};
 use crate::setting::{history_length, Config, Rules, BANKS, MARK, TD, TFAW};
 
 /// What the controller of a card has at most.
@@ -16,22 +17,22 @@ pub struct Profile {
 pub const LARGE: u64 = 0;
 pub const SMALL: u64 = 1;
 
-/// The profiles by their marks.
-pub const PROFILES: [Profile; 2] = [
-    Profile {
-        banks: 16,
-        history: 4_096,
-    },
-    Profile {
-        banks: 4,
-        history: 1_024,
-    },
-];
+/// Most banks of any setting.
+pub const MOST_BANKS: u64 = 16;
 
-/// What the large profile has at most, and so every setting.
-pub const OF_LARGE: Profile = PROFILES[LARGE as usize];
-/// What the small profile has at most.
-pub const OF_SMALL: Profile = PROFILES[SMALL as usize];
+/// What the small profile has at most, in both widths.
+pub const OF_SMALL: Profile = Profile {
+    banks: 4,
+    history: 1_024,
+};
+
+/// What the large profile has at most, and so every setting of a width.
+pub fn of_large(limits: &Limits) -> Profile {
+    Profile {
+        banks: MOST_BANKS,
+        history: limits.history,
+    }
+}
 
 /// The mark as it is taken. Only a fault takes another than the setting has.
 fn mark(config: &Config) -> u64 {
@@ -52,7 +53,7 @@ fn mark(config: &Config) -> u64 {
 
 /// Does the mark name no profile? That is a field out of range, refusal 1.
 pub fn unnamed(config: &Config) -> bool {
-    mark(config) >= PROFILES.len() as u64
+    mark(config) > SMALL
 }
 
 /// Is the setting one of the small profile?
@@ -95,7 +96,10 @@ fn many_banks(config: &Config) -> bool {
 
 /// A longer history than the small profile has.
 fn long_history(config: &Config) -> bool {
-    let most = u128::from(OF_SMALL.history);
+    let most = u128::from(match config.fault {
+        Fault::WideSmallScaled if is_wide(config) => 8 * OF_SMALL.history,
+        _ => OF_SMALL.history,
+    });
     let whole = config.setting[TD].checked_div(config.setting[TFAW]);
     match config.fault {
         Fault::ProfileFullHistoryRefused => history_length(config).is_some_and(|h| h >= most),

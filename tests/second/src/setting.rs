@@ -1,9 +1,11 @@
 //! The setting of the throttle: its ten words and 64 seeds, the numbers derived
-//! from it (history length H, row bound B) and its refusals, 1 to 5 and 16.
+//! from it (history length H, row bound B) and its refusals, 1 to 5 and 16, of
+//! which 1 and 4 depend on the width.
 
 use crate::fault::Fault;
+use crate::limits::{at_width, is_wide, Limits, NEW, OLD};
 use crate::profile::{
-    above_small, is_small, mark_is_late, small_rules, unnamed, OF_LARGE, OF_SMALL,
+    above_small, is_small, mark_is_late, small_rules, unnamed, MOST_BANKS, OF_SMALL,
 };
 
 /// The words of a setting: W, tRC, tFAW, N, tD, L, Q, banks, threads and the
@@ -22,17 +24,30 @@ pub const MARK: usize = 9;
 pub struct Config<'a> {
     pub setting: Setting,
     pub seeds: &'a [u16],
+    /// What the width of the call allows.
+    pub limits: Limits,
     pub fault: Fault,
 }
 
 impl<'a> Config<'a> {
-    /// The plain specification on this setting.
+    /// The plain specification on this setting, in the old width.
     pub fn new(setting: Setting, seeds: &'a [u16]) -> Self {
         Config {
             setting,
             seeds,
+            limits: OLD,
             fault: Fault::None,
         }
+    }
+
+    /// The plain specification on this setting, in the new width.
+    pub fn wide(setting: Setting, seeds: &'a [u16]) -> Self {
+        Config::new(setting, seeds).within(NEW)
+    }
+
+    /// The same setting with other limits.
+    pub fn within(self, limits: Limits) -> Self {
+        Config { limits, ..self }
     }
 
     /// The same setting with a fault switched on.
@@ -63,6 +78,8 @@ pub struct Rules<'a> {
     /// Top of the index counters, D = L - N.
     pub d: u64,
     pub seeds: &'a [u16],
+    /// Is it the new width? Only faults ask.
+    pub wide: bool,
     pub fault: Fault,
 }
 
@@ -70,6 +87,11 @@ impl Rules<'_> {
     /// Is this wrong behaviour switched on?
     pub fn has(&self, fault: Fault) -> bool {
         self.fault == fault
+    }
+
+    /// Is this wrong behaviour switched on in the new width?
+    pub fn has_wide(&self, fault: Fault) -> bool {
+        self.wide && self.has(fault)
     }
 
     /// The same setting with another wrong behaviour.
@@ -135,13 +157,13 @@ fn in_range(config: &Config) -> bool {
     let [w, trc, tfaw, n, td, l, q, banks, threads, _] = config.setting;
     let most_banks = match config.fault {
         Fault::ProfileBanksAreOne if is_small(config) => OF_SMALL.banks,
-        _ => OF_LARGE.banks,
+        _ => MOST_BANKS,
     };
     (2..=1 << 30).contains(&w)
         && w % 2 == 0
         && (1..=65_535).contains(&trc)
         && (1..=65_535).contains(&tfaw)
-        && (1..=32_768).contains(&n)
+        && (1..=config.limits.threshold).contains(&n)
         && (1..=1 << 29).contains(&td)
         && (1..=1 << 24).contains(&l)
         && (1..=255).contains(&q)
@@ -152,11 +174,11 @@ fn in_range(config: &Config) -> bool {
         && config.seeds.iter().all(|&seed| seed <= 1023)
 }
 
-/// Refusal 4: more history places than any profile has.
+/// Refusal 4: more history places than the width allows.
 fn long_history(config: &Config) -> bool {
     let most = match config.fault {
         Fault::ProfileHistoryIsFour if is_small(config) => OF_SMALL.history,
-        _ => OF_LARGE.history,
+        _ => config.limits.history,
     };
     history_length(config).is_none_or(|h| h > u128::from(most))
 }
@@ -206,10 +228,14 @@ pub fn accept_but_16<'a>(config: &Config<'a>) -> Result<Rules<'a>, u32> {
 /// The rules of a setting that meets none of 1 to 5.
 fn rules<'a>(config: &Config<'a>) -> Rules<'a> {
     let [w, trc, tfaw, n, td, l, q, banks, threads, _] = config.setting;
+    let wide = is_wide(config);
     let rules = Rules {
         trc,
         tfaw,
-        n,
+        n: match config.fault {
+            Fault::WideThresholdCut if wide => n % 65_536,
+            _ => n,
+        },
         td,
         q,
         banks: banks as usize,
@@ -218,7 +244,8 @@ fn rules<'a>(config: &Config<'a>) -> Rules<'a> {
         h: history_length(config).map_or(0, |h| h as usize),
         d: l - n,
         seeds: config.seeds,
-        fault: config.fault,
+        wide,
+        fault: at_width(config.fault, wide),
     };
     if is_small(config) {
         small_rules(rules)

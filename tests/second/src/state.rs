@@ -1,5 +1,6 @@
 //! The memory the throttle works on: the state head and the four lent
-//! buffers, with the refusals about them (6 and 7).
+//! buffers, with the refusals about them (6 and 7). The filter counters are
+//! numbers of up to 32 bits; in the old width each is below 65,536.
 
 use crate::fault::Fault;
 use crate::setting::Rules;
@@ -13,6 +14,10 @@ pub const BANK: usize = 2;
 /// First of four head cells: the rank's last activations, newest first.
 pub const RANK: usize = 18;
 
+/// History places of the old width at most, beyond which a fault of the new one
+/// does not go.
+pub const FEW: usize = 4_096;
+
 /// Offset of in flight among the three cells of a thread in a bank; 0 and 1
 /// are its index counters of filter 0 and 1.
 pub const IN_FLIGHT: usize = 2;
@@ -23,7 +28,7 @@ pub const IN_FLIGHT: usize = 2;
 pub struct State {
     pub head: [u64; 22],
     /// [bank * 2048 + filter * 1024 + place]
-    pub counters: Vec<u16>,
+    pub counters: Vec<u32>,
     /// History buffer: stored ticks.
     pub ticks: Vec<u64>,
     /// History buffer: bank * 65,536 + row.
@@ -46,10 +51,18 @@ impl State {
 
     /// Clears the used parts and the head.
     pub fn clear(&mut self, rules: &Rules) {
+        let counters = match rules.fault {
+            Fault::WideSetupClearsHalf if rules.wide => counters_used(rules) / 2,
+            _ => counters_used(rules),
+        };
+        let places = match rules.fault {
+            Fault::WideSetupClearsFew if rules.wide => rules.h.min(FEW),
+            _ => rules.h,
+        };
         self.head = [0; 22];
-        self.counters[..counters_used(rules)].fill(0);
-        self.ticks[..rules.h].fill(0);
-        self.rows[..rules.h].fill(0);
+        self.counters[..counters].fill(0);
+        self.ticks[..places].fill(0);
+        self.rows[..places].fill(0);
         self.threads[..threads_used(rules)].fill(0);
     }
 
@@ -64,11 +77,20 @@ impl State {
     /// Refusal 7: a history place of H or more, a kept tick after the last
     /// tick, or stored history ticks that rise when read back.
     pub fn unsound(&self, rules: &Rules) -> bool {
-        self.head[PLACE] >= rules.h as u64 || self.kept_after_last(rules) || self.rises(rules)
+        self.place_outside(rules) || self.kept_after_last(rules) || self.rises(rules)
+    }
+
+    /// Is the next history place H or more?
+    pub fn place_outside(&self, rules: &Rules) -> bool {
+        let places = match rules.fault {
+            Fault::WidePlaceRefused if rules.wide => rules.h.min(FEW),
+            _ => rules.h,
+        };
+        self.head[PLACE] >= places as u64
     }
 
     /// Is a kept tick of a bank, of the rank or of the history after the last?
-    fn kept_after_last(&self, rules: &Rules) -> bool {
+    pub fn kept_after_last(&self, rules: &Rules) -> bool {
         let banks = if rules.has(Fault::LooksAtForeignBanks) {
             16
         } else {
@@ -81,22 +103,32 @@ impl State {
             }
             stored != 0 && stored - 1 > last
         };
+        let places = if rules.has_wide(Fault::WideTestStops) {
+            rules.h.min(FEW)
+        } else {
+            rules.h
+        };
         self.head[BANK..BANK + banks].iter().any(after)
             || self.head[RANK..RANK + 4].iter().any(after)
-            || self.ticks[..rules.h].iter().any(after)
+            || self.ticks[..places].iter().any(after)
     }
 
     /// Do the stored history ticks rise anywhere, read from the newest place
     /// back? Needs a history place below H.
-    fn rises(&self, rules: &Rules) -> bool {
-        let place = self.head[PLACE] as usize;
-        let back = |age: usize| (place + 2 * rules.h - 1 - age) % rules.h;
+    pub fn rises(&self, rules: &Rules) -> bool {
+        let before = |place: usize| if place == 0 { rules.h - 1 } else { place - 1 };
+        let mut newer = before(self.head[PLACE] as usize);
         let pairs = if rules.has(Fault::WrapPairIsRise) {
             rules.h
         } else {
             rules.h - 1
         };
-        (0..pairs).any(|age| self.rise(rules, back(age), back(age + 1)))
+        (0..pairs).any(|_| {
+            let older = before(newer);
+            let rise = self.rise(rules, newer, older);
+            newer = older;
+            rise
+        })
     }
 
     /// Do the stored ticks rise from one history place to the older one?
@@ -112,18 +144,27 @@ impl State {
             }
             Fault::LargeRiseMissed => old > new && old - new <= 1 << 63,
             Fault::LargeGapIsRise => old > new || new - old >= 1 << 58,
+            Fault::WideTestStops if rules.wide => old > new && newer.max(older) < FEW,
             _ => old > new,
         }
     }
 }
 
+/// First counter of a filter of a bank.
+pub fn filter_start(rules: &Rules, bank: usize, filter: usize) -> usize {
+    if rules.has_wide(Fault::WideBanksOverlap) {
+        return bank * 1024 + filter * 1024;
+    }
+    bank * 2048 + filter * 1024
+}
+
 /// Filter counters in use: two filters of 1,024 for each bank.
-fn counters_used(rules: &Rules) -> usize {
+pub fn counters_used(rules: &Rules) -> usize {
     rules.banks * 2 * 1024
 }
 
 /// Thread counters in use: three for each bank and thread.
-fn threads_used(rules: &Rules) -> usize {
+pub fn threads_used(rules: &Rules) -> usize {
     rules.banks * rules.threads * 3
 }
 

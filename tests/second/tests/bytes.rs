@@ -147,7 +147,7 @@ fn throttle(seeds: &[u16]) -> Throttle {
 
 /// A cell for each place of a hash that no other function names too, in both
 /// filters.
-fn added(places: [usize; 4]) -> Vec<u16> {
+fn added(places: [usize; 4]) -> Vec<u32> {
     let mut counters = vec![0; 2_048];
     for place in places {
         counters[place] = 1;

@@ -1,6 +1,6 @@
 //! Every wrong behaviour of the calls that can be switched on shows in a campaign
 //! of small runs, on memory set up and on memory of any contents. Those of the
-//! hash by bytes and of the profile mark have tests of their own.
+//! hash by bytes, of the profile mark and of the widths have tests of their own.
 
 mod common;
 
@@ -65,6 +65,11 @@ fn every_fault_belongs_to_a_part() {
         Fault::CHECKER,
         Fault::WRITER,
         Fault::PLANNER,
+        Fault::WIDE,
+        Fault::OLD_WIDTH,
+        Fault::PLAN_LIMITS,
+        Fault::LOG_LIMITS,
+        Fault::CHANGE,
     ];
     assert_eq!(parts.concat(), Fault::ALL);
 }

@@ -29,7 +29,7 @@ fn with_any_n(n: u64) -> Throttle {
 }
 
 /// Writes a row's four counters in one filter of a bank.
-fn write(throttle: &mut Throttle, bank: usize, filter: usize, row: u16, four: [u16; 4]) {
+fn write(throttle: &mut Throttle, bank: usize, filter: usize, row: u16, four: [u32; 4]) {
     for (place, counter) in hash(&throttle.seeds, row).into_iter().zip(four) {
         throttle.state.counters[bank * 2048 + filter * 1024 + place] = counter;
     }
@@ -138,7 +138,7 @@ fn the_first_request_after_set_up_leaves_n_minus_1() {
             throttle
                 .state
                 .counters
-                .fill(numbers.within(0, 65_535) as u16);
+                .fill(numbers.within(0, 65_535) as u32);
             assert_eq!(throttle.setup(), 0);
             let tick = numbers.within(0, (1 << 62) - 1);
             let row = numbers.within(0, 65_535) as u16;
@@ -152,7 +152,7 @@ fn counters_around_n_and_the_greatest() {
     for n in [1, 2, 3, 1_000, 32_767, 32_768] {
         for counter in [0, 1, n - n.min(2), n - 1, n, n + 1, 65_535] {
             let mut throttle = with_any_n(n);
-            throttle.state.counters.fill(counter as u16);
+            throttle.state.counters.fill(counter as u32);
             let left = n.saturating_sub(counter + 1);
             assert_eq!(throttle.ask(3, 0, 0, 5), opened(left), "{n} {counter}");
         }
@@ -269,7 +269,7 @@ fn lent(numbers: &mut Numbers) -> Throttle {
     throttle
         .state
         .counters
-        .fill_with(|| numbers.within(0, top) as u16);
+        .fill_with(|| numbers.within(0, top) as u32);
     throttle.state.threads[2] = numbers.within(0, 6) as u32;
     throttle
 }

@@ -1,55 +1,63 @@
-//! The planner against every delay tried one by one, under both profiles.
+//! The planner against every delay tried one by one, under both profiles and in
+//! both widths.
 
 mod common;
 
+use common::wide::{CHIP, THRESHOLD};
 use common::*;
 use second::plan::delays;
 use second::setting::row_bound;
-use second::{Config, Fault, Setting};
+use second::{Config, Fault, Limits, Setting, NEW, OLD};
 
 /// What `out` holds before a call.
 const BEFORE: [u64; 2] = [111, 222];
 
 /// The number that the planner returns, and `out` after it.
 fn planned(setting: &Setting, fault: Fault) -> (u32, [u64; 2]) {
+    planned_within(OLD, setting, fault)
+}
+
+/// The same in a width.
+fn planned_within(limits: Limits, setting: &Setting, fault: Fault) -> (u32, [u64; 2]) {
     let mut out = BEFORE;
-    let number = delays(&Config::new(*setting, &[]).with(fault), &mut out);
-    (number, out)
+    let config = Config::new(*setting, &[]).within(limits).with(fault);
+    (delays(&config, &mut out), out)
 }
 
 /// The delays that are accepted with a mark. A delay above W is above W/2, so
 /// that W + 1 stands for every longer one.
-fn accepted(setting: &Setting, mark: u64) -> Vec<u64> {
+fn accepted(limits: Limits, setting: &Setting, mark: u64) -> Vec<u64> {
     let tried = 1..=(setting[W] + 1).min(1 << 29);
-    let taken = |delay: &u64| refusal(with(*setting, &[(TD, *delay), (MARK, mark)]), &[0; 64]) == 0;
+    let with_delay = |delay| with(*setting, &[(TD, delay), (MARK, mark)]);
+    let taken = |delay: &u64| refusal_within(limits, with_delay(*delay), &[0; 64]) == 0;
     tried.filter(taken).collect()
 }
 
 /// Why no delay is accepted: 1 or 2 whatever the delay, 16 if one is with mark 0,
 /// else the refusal of the smallest delay with B <= L, or 5.
-fn reason(setting: &Setting) -> u32 {
-    let first = refusal(with(*setting, &[(TD, 1)]), &[0; 64]);
+fn reason(limits: Limits, setting: &Setting) -> u32 {
+    let first = refusal_within(limits, with(*setting, &[(TD, 1)]), &[0; 64]);
     if first == 1 || first == 2 {
         return first;
     }
-    if !accepted(setting, 0).is_empty() {
+    if !accepted(limits, setting, 0).is_empty() {
         return 16;
     }
     let plain = |delay| with(*setting, &[(TD, delay), (MARK, 0)]);
     let bound = |delay| row_bound(&Config::new(plain(delay), &[])).unwrap() as u64;
     let smallest = (1..=setting[W] + 1).find(|&delay| bound(delay) <= setting[L]);
-    smallest.map_or(5, |delay| refusal(plain(delay), &[0; 64]))
+    smallest.map_or(5, |delay| refusal_within(limits, plain(delay), &[0; 64]))
 }
 
 /// What the planner has to give.
-fn wanted(setting: &Setting) -> (u32, [u64; 2]) {
-    let delays = accepted(setting, setting[MARK]);
+fn wanted(limits: Limits, setting: &Setting) -> (u32, [u64; 2]) {
+    let delays = accepted(limits, setting, setting[MARK]);
     match (delays.first(), delays.last()) {
         (Some(&least), Some(&greatest)) => {
             assert_eq!(delays.len() as u64, greatest - least + 1, "{setting:?}");
             (0, [least, greatest])
         }
-        _ => (reason(setting), BEFORE),
+        _ => (reason(limits, setting), BEFORE),
     }
 }
 
@@ -85,8 +93,34 @@ fn cases() -> Vec<(Setting, (u32, [u64; 2]))> {
     let numbers = &mut Numbers::new(9);
     (0..2_500)
         .map(|_| any(numbers))
-        .map(|setting| (setting, wanted(&setting)))
+        .map(|setting| (setting, wanted(OLD, &setting)))
         .collect()
+}
+
+/// Settings for the new width: those of the old one, and ones at which 32,768
+/// history places decide.
+fn wide_settings() -> Vec<Setting> {
+    let numbers = &mut Numbers::new(10);
+    let mut settings: Vec<Setting> = (0..400).map(|_| any(numbers)).collect();
+    for k in 0..12 {
+        let w = numbers.within(8_180, 8_240);
+        let trc = w / 2 + numbers.within(0, 9);
+        let (limit, banks) = (3 + k / 6, numbers.within(4, 5));
+        settings.push([2 * w, trc, 1, 1, 1, limit, 4, banks, 8, k % 2]);
+    }
+    settings
+}
+
+/// Thresholds around the greatest of both widths, and what the planner of the new
+/// one gives.
+fn thresholds() -> [(Setting, (u32, [u64; 2])); 4] {
+    [
+        (32_768, (0, [1, 32_768])),
+        (32_769, (0, [1, 32_768])),
+        (1 << 20, (0, [1, 32_768])),
+        ((1 << 20) + 1, (1, BEFORE)),
+    ]
+    .map(|(n, wanted)| (with(THRESHOLD, &[(N, n)]), wanted))
 }
 
 #[test]
@@ -110,6 +144,48 @@ fn wrong_plans() {
         let shows = |(setting, wanted): &(Setting, _)| planned(setting, fault) != *wanted;
         assert!(cases.iter().any(shows), "{fault:?} does not show");
     }
+}
+
+#[test]
+fn every_delay_tried_in_the_new_width() {
+    let mut seen = [0; 17];
+    let brute = |setting| (setting, wanted(NEW, &setting));
+    let cases = wide_settings().into_iter().map(brute);
+    for (setting, wanted) in cases.chain(thresholds()) {
+        let found = planned_within(NEW, &setting, Fault::None);
+        assert_eq!(found, wanted, "{setting:?}");
+        seen[wanted.0 as usize] += 1;
+    }
+    let reached = [0, 1, 2, 3, 4, 5, 16].map(|number: usize| seen[number]);
+    assert!(reached.iter().all(|&count| count > 1), "{seen:?}");
+}
+
+#[test]
+fn wrong_plans_of_a_width() {
+    assert!(Fault::PLAN_LIMITS.len() >= 10);
+    let mut settings = wide_settings();
+    settings.extend(thresholds().map(|(setting, _)| setting));
+    let shows = |limits, fault, setting: &Setting| {
+        planned_within(limits, setting, fault) != planned_within(limits, setting, Fault::None)
+    };
+    for &fault in [Fault::PLANNER, Fault::PLAN_LIMITS].concat().iter() {
+        let of_old = [Fault::PlanOldNewThreshold, Fault::PlanOldNewHistory].contains(&fault);
+        let limits = if of_old { OLD } else { NEW };
+        let seen = settings.iter().any(|setting| shows(limits, fault, setting));
+        assert!(seen, "{fault:?} does not show");
+    }
+}
+
+/// The limit 1,024 has delays in the new width only, and N 400 is its last.
+#[test]
+fn a_chip_in_both_widths() {
+    let of = |limits, n| planned_within(limits, &with(CHIP, &[(N, n)]), Fault::None);
+    assert_eq!(of(NEW, 400), (0, [1_142_197, 1_146_880]));
+    assert_eq!(of(NEW, 401), (4, BEFORE));
+    assert_eq!(of(OLD, 400), (4, BEFORE));
+    let small = with(CHIP, &[(BANKS, 4), (MARK, 1)]);
+    assert_eq!(planned_within(OLD, &small, Fault::None), (4, BEFORE));
+    assert_eq!(planned_within(NEW, &small, Fault::None), (16, BEFORE));
 }
 
 /// A chip with N 4,096 and L 16,384: 256 times tFAW is the longest delay of the

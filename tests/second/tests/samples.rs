@@ -50,7 +50,7 @@ fn activation_of_row_0_adds_1() {
     assert_eq!(throttle.at(0, 0, 0, 0), OPENED);
     let counters = &throttle.state.counters;
     assert_eq!((counters[0], counters[1024]), (1, 1));
-    assert_eq!(counters.iter().map(|&c| u32::from(c)).sum::<u32>(), 2);
+    assert_eq!(counters.iter().sum::<u32>(), 2);
 }
 
 #[test]

@@ -1,29 +1,37 @@
 //! Attacks the limit from outside: greedy and random adversaries hammer rows
-//! through the library on small settings with L at the row bound B. No row may
-//! be activated more than B times in W successive ticks. The same adversaries
-//! on faulty implementations must get above B. Argument, optional: the seed.
+//! through the library on small settings with L at the row bound B, in the old
+//! width, in the new one and across a change-over. No row may be activated more
+//! than B times in W successive ticks. The same adversaries on faulty
+//! implementations must get above B. Argument, optional: the seed.
 
 use differential::adversary::{hammer, hammer_at_random, most_in, Plan, ROW};
 use differential::call::Call;
+use differential::crossed::Crossed;
+use differential::lent::Lent;
 use differential::numbers::Numbers;
-use differential::settings::{bound, seeds, L, N, TD, TRC, W};
-use differential::side::{Library, Second, Side};
+use differential::settings::{bound, seeds, BANKS, L, N, TD, TRC, W};
+use differential::side::{Library, Saved, Second, Side};
+use differential::wide::CHIP;
 use second::filter::hash;
-use second::setting::{accept, house_seeds};
-use second::{Config, Fault, Setting, State};
+use second::setting::house_seeds;
+use second::{Fault, Limits, Setting, NEW, OLD};
 use std::process::ExitCode;
 
-/// Settings tried besides the listed ones.
+/// Settings tried besides the listed ones, and how many of all are tried in the new
+/// width and across a change-over.
 const SETTINGS: usize = 160;
+const FEW: usize = 12;
 /// Setting S of the specification, where exhaustive search finds 8 of B = 10,
-/// and two settings that attain B, the second with tD above tRC.
-const LISTED: [Setting; 3] = [
+/// two settings that attain B, the second with tD above tRC, and one in which two
+/// bursts are most of B, so that a third one shows.
+const LISTED: [Setting; 4] = [
     [40, 1, 4, 2, 6, 10, 255, 1, 4, 1],
     [20, 2, 1, 2, 2, 10, 255, 2, 4, 0],
     [10, 2, 1, 1, 3, 4, 255, 2, 4, 1],
+    [40, 1, 4, 4, 20, 10, 255, 1, 4, 0],
 ];
 /// Most activations of a row in W ticks for the listed settings.
-const LISTED_MOST: [usize; 3] = [8, 10, 4];
+const LISTED_MOST: [usize; 4] = [8, 10, 4, 8];
 /// Faults with which some adversary gets above B.
 const UNSAFE: [Fault; 6] = [
     Fault::TestsClearedFilter,
@@ -33,6 +41,22 @@ const UNSAFE: [Fault; 6] = [
     Fault::StoresWithoutPlusOne,
     Fault::BlacklistedAboveN,
 ];
+
+/// Faults with which some adversary gets above B across a change-over to new
+/// counters that are 0 before it.
+const UNSAFE_CHANGES: [Fault; 3] = [
+    Fault::ChangeZeroes,
+    Fault::ChangeNothingWritten,
+    Fault::ChangeFilterZeroOnly,
+];
+
+/// In which width a row is hammered.
+#[derive(Clone, Copy, Debug)]
+enum Way {
+    Old,
+    New,
+    Across,
+}
 
 /// The most activations found on one setting.
 struct Found {
@@ -49,10 +73,14 @@ fn main() -> ExitCode {
     let mut numbers = Numbers::new(seed);
     let mut settings = LISTED.to_vec();
     settings.extend((0..SETTINGS).map(|_| small(&mut numbers)));
-    let sound = limits_hold(&mut numbers, &settings);
-    let seen = faults_seen(&mut numbers, &settings);
+    let few = &settings[..FEW];
+    let sound = limits_hold(&mut numbers, Way::Old, &settings)
+        && limits_hold(&mut numbers, Way::New, few)
+        && limits_hold(&mut numbers, Way::Across, few);
+    let seen = faults_seen(&mut numbers, &settings) && changes_seen();
     let published = published();
-    if sound && seen && published {
+    let chip = chip();
+    if sound && seen && published && chip {
         println!("attack: no row above its bound");
         ExitCode::SUCCESS
     } else {
@@ -92,11 +120,6 @@ fn colliding(numbers: &mut Numbers) -> Vec<u16> {
     }
 }
 
-/// Cleared memory for an accepted setting.
-fn cleared(setting: &Setting, seeds: &[u16]) -> State {
-    State::cleared(&accept(&Config::new(*setting, seeds)).expect("an accepted setting"))
-}
-
 /// The most activations in W ticks over all adversaries.
 fn most(side: &mut impl Side, setting: &Setting, numbers: &mut Numbers) -> usize {
     let (w, epoch) = (setting[W], setting[W] / 2);
@@ -122,13 +145,37 @@ fn most(side: &mut impl Side, setting: &Setting, numbers: &mut Numbers) -> usize
     most
 }
 
+/// The same on a side that is made from what it works on, in a width or across a
+/// change-over at each of some ticks: before an epoch turn, at it and after it.
+fn most_by<S: Saved>(
+    way: Way,
+    make: impl Fn(&Lent) -> S,
+    setting: &Setting,
+    numbers: &mut Numbers,
+) -> usize {
+    let seeds = colliding(numbers);
+    let side = |limits: Limits| make(&Lent::exact(limits, *setting, seeds.clone()));
+    match way {
+        Way::Old => most(&mut side(OLD), setting, numbers),
+        Way::New => most(&mut side(NEW), setting, numbers),
+        Way::Across => {
+            let epoch = setting[W] / 2;
+            let mut crossed = Crossed::new(side(OLD), setting[BANKS]);
+            let mut at = |tick| {
+                crossed.at = tick;
+                most(&mut crossed, setting, numbers)
+            };
+            let ticks = [3 * epoch - 1, 3 * epoch, 3 * epoch + epoch / 2];
+            ticks.map(&mut at).into_iter().max().unwrap_or(0)
+        }
+    }
+}
+
 /// Attacks the library on every setting; no row gets above B.
-fn limits_hold(numbers: &mut Numbers, settings: &[Setting]) -> bool {
+fn limits_hold(numbers: &mut Numbers, way: Way, settings: &[Setting]) -> bool {
     let mut found = Vec::new();
     for setting in settings {
-        let seeds = colliding(numbers);
-        let mut library = Library::new(setting, &seeds, &cleared(setting, &seeds));
-        let most = most(&mut library, setting, numbers);
+        let most = most_by(way, Library::new, setting, numbers);
         let bound = bound(setting).expect("accepted") as usize;
         found.push(Found {
             setting: *setting,
@@ -136,7 +183,7 @@ fn limits_hold(numbers: &mut Numbers, settings: &[Setting]) -> bool {
             most,
         });
     }
-    report(&found);
+    report(way, &found);
     let listed = found
         .iter()
         .zip(LISTED_MOST)
@@ -151,19 +198,20 @@ fn limits_hold(numbers: &mut Numbers, settings: &[Setting]) -> bool {
         println!("  ABOVE THE BOUND: {most} of {bound} on {setting:?}");
     }
     if !listed {
-        println!("  NOT AS LISTED: the most activations of the first settings");
+        let most: Vec<usize> = found.iter().map(|found| found.most).collect();
+        println!("  NOT AS LISTED: the most activations of the first settings, {most:?}");
     }
     listed && above.is_none()
 }
 
 /// Prints how near the attacks came to the bound.
-fn report(found: &[Found]) {
+fn report(way: Way, found: &[Found]) {
     let attained = found
         .iter()
         .filter(|found| found.most >= found.bound)
         .count();
     println!(
-        "  {} settings with L = B, B attained on {attained}",
+        "  {way:?}: {} settings with L = B, B attained on {attained}",
         found.len()
     );
     let delayed = found
@@ -190,16 +238,12 @@ fn report(found: &[Found]) {
 fn faults_seen(numbers: &mut Numbers, settings: &[Setting]) -> bool {
     let mut seen = 0;
     for fault in UNSAFE {
-        let above = settings.iter().any(|&setting| {
-            let seeds = colliding(numbers);
-            let state = cleared(&setting, &seeds);
-            let mut faulty = Second {
-                setting,
-                seeds,
+        let above = settings.iter().any(|setting| {
+            let faulty = |lent: &Lent| Second {
+                lent: lent.clone(),
                 fault,
-                state,
             };
-            most(&mut faulty, &setting, numbers) as u64 > bound(&setting).unwrap_or(0)
+            most_by(Way::Old, faulty, setting, numbers) as u64 > bound(setting).unwrap_or(0)
         });
         if !above {
             println!("  {fault:?}: NOT SEEN");
@@ -210,29 +254,64 @@ fn faults_seen(numbers: &mut Numbers, settings: &[Setting]) -> bool {
     seen == UNSAFE.len()
 }
 
+/// Two bursts get above B on each of the unsafe change-overs if one stands before
+/// the last activation of the second burst, and not without a fault.
+fn changes_seen() -> bool {
+    let (setting, seeds) = (LISTED[3], house_seeds());
+    let epoch = setting[W] / 2;
+    let above = |fault: &Fault| {
+        let lent = Lent::exact(OLD, setting, seeds.clone());
+        let faulty = Second {
+            lent,
+            fault: *fault,
+        };
+        let mut crossed = Crossed::new(faulty, setting[BANKS]);
+        crossed.at = 3 * epoch + setting[N] - 2;
+        bursts(&mut crossed, &setting, 2 * epoch) as u64 > setting[L]
+    };
+    let seen = UNSAFE_CHANGES.iter().filter(|fault| above(fault)).count();
+    println!(
+        "  {seen} of {} unsafe change-overs seen",
+        UNSAFE_CHANGES.len()
+    );
+    seen == UNSAFE_CHANGES.len() && !above(&Fault::None)
+}
+
 /// The published setting (N 8,192, tD 31,065) lets a row be activated 20,431
 /// times in W ticks, far above its limit of 16,384. Document 01 refuses it with
 /// that limit, and accepts it with L = B = 24,528.
 fn published() -> bool {
     let twin = [256_000_000, 185, 140, 8_192, 31_065, 24_528, 255, 1, 2, 0];
     let half = [256_000_000, 185, 140, 4_096, 31_065, 16_384, 255, 1, 2, 1];
-    let mut refused = twin;
-    refused[L] = 16_384;
-    let seeds = house_seeds();
-    let mut library = Library::new(&refused, &seeds, &cleared(&twin, &seeds));
+    let mut refused = Lent::exact(OLD, twin, house_seeds());
+    refused.setting[L] = 16_384;
+    let mut library = Library::new(&refused);
     let number = library.call(&Call::SETUP).number;
-    let (twin, half) = (bursts(&twin), bursts(&half));
+    let [twin, half] = [twin, half].map(|setting| through_library(OLD, &setting));
     println!("  published setting: refused with {number} at L 16,384;");
     println!("  at L 24,528 a row is activated {twin} times in W; with half its N {half} times");
     number == 5 && twin == 20_431 && half <= 16_384
 }
 
-/// The most activations in W ticks if N of them, tRC apart, end with an epoch
-/// and the others come as early as allowed.
-fn bursts(setting: &Setting) -> usize {
-    let seeds = house_seeds();
-    let mut library = Library::new(setting, &seeds, &cleared(setting, &seeds));
-    let turn = 3 * (setting[W] / 2);
+/// A chip with the limit 1,024 is kept by the new width, and refused by the old.
+fn chip() -> bool {
+    let mut old = Library::new(&Lent::exact(OLD, CHIP, house_seeds()));
+    let number = old.call(&Call::SETUP).number;
+    let most = through_library(NEW, &CHIP);
+    println!("  limit 1,024: refused with {number} by the old width;");
+    println!("  in the new width a row is activated {most} times in W");
+    number == 4 && most == 911
+}
+
+/// The same two bursts through the library in a width.
+fn through_library(limits: Limits, setting: &Setting) -> usize {
+    let mut library = Library::new(&Lent::exact(limits, *setting, house_seeds()));
+    bursts(&mut library, setting, 3 * (setting[W] / 2))
+}
+
+/// The most activations in W ticks if N of them, tRC apart, end with the epoch
+/// before a turn and the others come as early as allowed.
+fn bursts(side: &mut impl Side, setting: &Setting, turn: u64) -> usize {
     let start = turn - 1 - (setting[N] - 1) * setting[TRC];
     let plan = Plan {
         start,
@@ -240,5 +319,5 @@ fn bursts(setting: &Setting) -> usize {
         pause: 0,
         end: start + setting[W],
     };
-    most_in(&hammer(&mut library, setting, &plan), setting[W])
+    most_in(&hammer(side, setting, &plan), setting[W])
 }

@@ -1,21 +1,28 @@
 //! Compares the library with the second implementation after every call of a
-//! campaign, on listed histories and counters, and under the house seeds and seeds
-//! next to them; with itself under both profiles; and the log writer and the
-//! planner. Arguments, both optional: the seed and the number of runs.
+//! campaign in each width, on listed histories and counters, on settings at bounds,
+//! and under the house seeds and seeds next to them; the change-over, alone and in
+//! lists of calls; the library with itself under both profiles and in both widths
+//! after a change-over; and the log writer and the planner. Arguments, both
+//! optional: the seed and the number of runs in the old width.
 
 use differential::campaign::Campaign;
-use differential::settings::{accepted, BASES};
+use differential::hashes::Sides;
+use differential::rings::By;
+use differential::settings::{accepted, bases};
 use differential::side::Library;
 use differential::tally::{Tally, LEAST};
-use differential::{hashes, levels, planner, rings, twins, writer};
-use second::Fault;
+use differential::{
+    beside, change_refusals, crossing, edges, far, hashes, levels, planner, rings, twins, writer,
+};
+use second::{Fault, Limits, NEW, OLD};
 use std::fmt::Debug;
 use std::process::ExitCode;
 
-/// Runs of a campaign.
+/// Runs of a campaign in the old width, and calls that it has to make. That of the
+/// new width has an eighth.
 const RUNS: u64 = 160_000;
-/// Calls that a campaign has to make.
 const CALLS: u64 = 1_000_000;
+const SHARE: u64 = 8;
 
 fn main() -> ExitCode {
     let mut arguments = std::env::args().skip(1).map(|word| word.parse::<u64>());
@@ -23,105 +30,167 @@ fn main() -> ExitCode {
     let runs = arguments
         .next()
         .map_or(RUNS, |runs| runs.expect("a number of runs"));
-    let campaign = Campaign::new(seed);
-    let mut tally = Tally::default();
-    println!(
-        "compare: seed {seed}, {} settings at bounds",
-        campaign.bounds()
-    );
-    if !BASES.iter().all(accepted) {
-        println!("compare: a base setting is not accepted");
-        return ExitCode::FAILURE;
-    }
-    for run in 0..runs {
-        if let Err(difference) = campaign.run(run, Fault::None, &mut tally) {
-            println!("compare: DIFFERENCE in run {run}: {difference:#?}");
-            return ExitCode::FAILURE;
-        }
-    }
-    if !(listed() && hashed(seed) && profiles(seed) && others(seed)) {
-        return ExitCode::FAILURE;
-    }
-    println!("{tally}");
-    let missed = tally.missed();
-    if tally.calls < CALLS || runs / 8 < campaign.bounds() as u64 || !missed.is_empty() {
-        println!("compare: too few calls or runs, or reached too seldom: {missed:?}");
+    println!("compare: seed {seed}");
+    let both = [OLD, NEW];
+    let all_accepted = |limits| bases(limits).iter().all(|base| accepted(limits, base));
+    let same = both.iter().all(all_accepted)
+        && campaign(seed, OLD, runs, CALLS)
+        && campaign(seed, NEW, runs / SHARE, CALLS / SHARE)
+        && both
+            .into_iter()
+            .all(|limits| listed(limits) && hashed(seed, limits))
+        && both.into_iter().all(|limits| profiles(seed, limits))
+        && far_places()
+        && at_edges()
+        && changed(seed)
+        && written(seed)
+        && both.into_iter().all(|limits| planned(seed, limits));
+    if !same {
+        println!("compare: FAILED");
         return ExitCode::FAILURE;
     }
     println!("compare: no difference");
     ExitCode::SUCCESS
 }
 
-/// Prints what was compared, or where there is a difference; was there none?
-fn none<E: Debug>(what: &str, compared: Result<String, E>) -> bool {
+/// The width by name.
+fn width(limits: Limits) -> &'static str {
+    match limits {
+        NEW => "new width",
+        _ => "old width",
+    }
+}
+
+/// Makes the runs of a width; was there no difference, and was enough reached?
+fn campaign(seed: u64, limits: Limits, runs: u64, calls: u64) -> bool {
+    let campaign = Campaign::new(seed, limits);
+    let mut tally = Tally::default();
+    let (name, bounds) = (width(limits), campaign.bounds());
+    println!("compare: {name}, {bounds} settings at bounds in the runs");
+    for run in 0..runs {
+        if let Err(difference) = campaign.run(run, Fault::None, &mut tally) {
+            println!("compare: DIFFERENCE in run {run}: {difference:#?}");
+            return false;
+        }
+    }
+    println!("{tally}");
+    let missed = tally.missed();
+    let enough = tally.calls >= calls && runs / 8 >= bounds as u64 && missed.is_empty();
+    if !enough {
+        println!("compare: too few calls or runs, or reached too seldom: {missed:?}");
+    }
+    enough
+}
+
+/// Prints what was compared, or where there is a difference or too little was
+/// reached; was there no difference, and enough?
+fn none<T: Debug, E: Debug>(what: &str, compared: Result<T, E>, enough: fn(&T) -> bool) -> bool {
     match &compared {
-        Ok(told) => println!("  {what}: {told}"),
+        Ok(told) if enough(told) => println!("  {what}: {told:?}"),
+        Ok(told) => println!("compare: too little reached in {what}: {told:?}"),
         Err(difference) => println!("compare: DIFFERENCE in {what}: {difference:#?}"),
     }
-    compared.is_ok()
+    compared.is_ok_and(|told| enough(&told))
 }
 
 /// Compares on listed histories and on listed counters.
-fn listed() -> bool {
-    let histories = rings::compare(Fault::None)
-        .map(|told| format!("{} sound, {} not", told.sound, told.unsound));
-    let counters = levels::compare(Fault::None)
-        .map(|told| format!("{} opened with 0 left, {} with more", told.none, told.some));
-    none("listed histories", histories) && none("listed counters", counters)
+fn listed(limits: Limits) -> bool {
+    let by = match limits {
+        NEW => By::NewIndex,
+        _ => By::OldIndex,
+    };
+    let name = width(limits);
+    let histories = rings::compare(by, Fault::None);
+    let counters = levels::compare(limits, Fault::None);
+    none(&format!("listed histories, {name}"), histories, |told| {
+        told.sound.min(told.unsound) > 1_000
+    }) && none(&format!("listed counters, {name}"), counters, |told| {
+        told.none.min(told.some) > 1_000
+    })
 }
 
-/// Compares under the house seeds and under others.
-fn hashed(seed: u64) -> bool {
-    let compared = hashes::compare(seed, Fault::None).and_then(|told| {
-        let text = format!("{told:?}");
-        // Every row once under the house seeds; ten bits of each word, and six that
-        // the four calls refuse.
-        let enough = told.house > 66_000
+/// Compares under the house seeds and under others: every row once under the house
+/// seeds; ten bits of each word, and six that the four calls refuse.
+fn hashed(seed: u64, limits: Limits) -> bool {
+    let fault = Fault::None;
+    let compared = hashes::compare(seed, Sides { limits, fault });
+    let name = format!("house seeds and others, {}", width(limits));
+    none(&name, compared, |told| {
+        told.house > 66_000
             && told.changed > 64 * 10 * 20
             && told.refused == 64 * 6 * 4
             && told.other.min(told.held) > 1_000
-            && told.in_turn > 500;
-        if enough {
-            Ok(text)
-        } else {
-            Err(format!("too few: {text}"))
-        }
-    });
-    none("house seeds and others", compared)
+            && told.in_turn > 500
+    })
 }
 
 /// Compares the library with mark 1 and with mark 0.
-fn profiles(seed: u64) -> bool {
-    let compared = twins::compare(seed, Library::new).and_then(|told| {
-        let text = format!("{} settings, {} answers", told.settings, told.answered);
-        let enough = told.settings > 1_000 && told.answered > 10_000;
-        if enough {
-            Ok(text)
-        } else {
-            Err(format!("too few: {text}"))
-        }
-    });
-    none("both profiles", compared)
+fn profiles(seed: u64, limits: Limits) -> bool {
+    let compared = twins::compare(seed, limits, Library::new);
+    none(
+        &format!("both profiles, {}", width(limits)),
+        compared,
+        |told| told.settings > 1_000 && told.answered > 10_000,
+    )
 }
 
-/// Compares the log writer and the planner.
-fn others(seed: u64) -> bool {
-    let written = writer::compare(seed, Fault::None).and_then(|told| {
-        let text = format!("{told:?}");
-        let seldom = told.written.into_iter().any(|count| count < LEAST);
-        if seldom || told.refused < LEAST || told.for_the_mark < LEAST {
-            return Err(format!("too few: {text}"));
-        }
-        Ok(text)
-    });
-    let planned = planner::compare(seed, Fault::None).and_then(|told| {
+/// Compares at history places that only the new width has: 18 places, with three
+/// activations, two waits and three memories that 7 refuses at each.
+fn far_places() -> bool {
+    none("far history places", far::compare(Fault::None), |told| {
+        [told.opened, told.waits, told.unsound] == [18 * 3, 18 * 2, 18 * 3]
+    })
+}
+
+/// Compares all calls on settings at the bounds of both widths.
+fn at_edges() -> bool {
+    none("settings at bounds", edges::compare(Fault::None), |told| {
+        let all = [&told.calls[..], &told.plans[..], &[told.changes]].concat();
+        all.iter().flatten().all(|&count| count > LEAST)
+    })
+}
+
+/// Compares the change-over, and what comes after it.
+fn changed(seed: u64) -> bool {
+    let refusals = change_refusals::compare(Fault::None);
+    let histories = rings::compare(By::ChangeOver, Fault::None);
+    let lists = crossing::compare(seed, Fault::None);
+    let widths = beside::compare(seed, Library::new);
+    none("change-over, refusals", refusals, |told| {
+        [0, 1, 2, 3, 4, 5, 16, 6, 7]
+            .iter()
+            .all(|&number| told.numbers[number] > 3)
+    }) && none("change-over, listed histories", histories, |told| {
+        told.sound.min(told.unsound) > 1_000
+    }) && none("change-over, lists", lists, |told| {
+        let numbers = [0, 1, 2, 3, 4, 5, 16, 6, 7];
+        let seldom = numbers.iter().any(|&number| told.numbers[number] < LEAST);
+        let memory = [told.not_set_up, told.above, told.high, told.longer];
+        !seldom
+            && told.before.min(told.after) > 1_000
+            && memory
+                .iter()
+                .chain(&told.answers)
+                .all(|&count| count > LEAST)
+    }) && none("change-over, both widths", widths, |told| {
+        told.changed > 1_000 && told.answered > 10_000
+    })
+}
+
+/// Compares the log writer.
+fn written(seed: u64) -> bool {
+    none("log writer", writer::compare(seed, Fault::None), |told| {
+        let written = told.written.into_iter().all(|count| count > LEAST);
+        written && told.refused.min(told.for_the_mark) > LEAST
+    })
+}
+
+/// Compares the planner of a width.
+fn planned(seed: u64, limits: Limits) -> bool {
+    let compared = planner::compare(seed, limits, Fault::None);
+    none(&format!("planner, {}", width(limits)), compared, |told| {
         let of = |mark: usize| planner::NUMBERS.map(|number| told.numbers[mark][number]);
-        let text = format!("{:?} by number, {} fewer", [of(0), of(1)], told.fewer);
-        let seldom = of(0)[..6].iter().chain(&of(1)).any(|&count| count < LEAST);
-        if seldom || told.fewer < LEAST {
-            return Err(format!("too few: {text}"));
-        }
-        Ok(text)
-    });
-    none("log writer", written) && none("planner", planned)
+        let both = [of(0)[..6].to_vec(), of(1).to_vec()].concat();
+        both.iter().all(|&count| count > LEAST) && told.fewer > LEAST
+    })
 }

@@ -1,10 +1,11 @@
-//! Shows that a corpus of logs tells each wrong reading of the profile mark and
-//! each wrong hash by bytes from the right one. Standard input names the logs line
-//! by line; the report that a log must get stands beside NAME.log in NAME.expected.
-//! Every log must get its report, and with each fault of the checker and of the
-//! hash some log must get another; so it must with those faults of the other calls
-//! that a log can show. Where a log has other than the house seeds it must itself
-//! get another report if the table of the house seeds is taken for them.
+//! Shows that a corpus of logs tells each wrong reading of the profile mark, each
+//! wrong hash by bytes and the limits of the new width from the right ones. Standard
+//! input names the logs line by line; the report that a log must get stands beside
+//! NAME.log in NAME.expected. Every log must get its report, and with each fault of
+//! the checker and of the hash some log must get another; so it must with those
+//! faults of the other calls that a log can show. Where a log has other than the
+//! house seeds it must itself get another report if the table of the house seeds is
+//! taken for them.
 
 use second::{log, Fault};
 use std::io::{self, BufRead};
@@ -91,6 +92,7 @@ fn main() -> io::Result<ExitCode> {
     let right = corpus.reported() & corpus.table_shown();
     let parts = [
         ("readings of the mark", Fault::CHECKER.to_vec()),
+        ("limits", Fault::LOG_LIMITS.to_vec()),
         ("hashes", [Fault::TABLE, Fault::HOUSE].concat()),
         ("calls", [Fault::PROFILE, Fault::SMALL].concat()),
     ];

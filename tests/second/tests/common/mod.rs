@@ -1,14 +1,16 @@
 //! What the tests share: the setting S of the sample runs, a throttle with its
 //! own memory, random numbers, and logs made with a rule of document 01; in
-//! `runs` settings, memory and calls at random.
+//! `runs` settings, memory and calls at random, and in `wide` those that only the
+//! new width takes.
 #![allow(dead_code)]
 
 pub mod runs;
+pub mod wide;
 
 use second::log::{check, Record, Report};
 use second::setting::{accept, house_seeds};
 use second::write::encode;
-use second::{done, index, request, setup, Config, Fault, Setting, State};
+use second::{done, index, request, setup, Config, Fault, Limits, Setting, State, NEW, OLD};
 
 /// W 40, tRC 1, tFAW 4, N 2, tD 6, L 10, Q 4, one bank, one thread, large.
 pub const S: Setting = [40, 1, 4, 2, 6, 10, 4, 1, 1, 0];
@@ -48,7 +50,13 @@ pub fn with(mut setting: Setting, changes: &[(usize, u64)]) -> Setting {
 
 /// The refusal of a setting, 0 if it is accepted.
 pub fn refusal(setting: Setting, seeds: &[u16]) -> u32 {
-    accept(&Config::new(setting, seeds)).err().unwrap_or(0)
+    refusal_within(OLD, setting, seeds)
+}
+
+/// The same in a width.
+pub fn refusal_within(limits: Limits, setting: Setting, seeds: &[u16]) -> u32 {
+    let config = Config::new(setting, seeds).within(limits);
+    accept(&config).err().unwrap_or(0)
 }
 
 /// Xorshift numbers, the same on every run.
@@ -77,20 +85,32 @@ impl Numbers {
 pub struct Throttle {
     pub setting: Setting,
     pub seeds: Vec<u16>,
+    pub limits: Limits,
     /// A wrong behaviour, or none.
     pub fault: Fault,
     pub state: State,
 }
 
 impl Throttle {
+    /// Of the old width.
     pub fn new(setting: Setting) -> Self {
+        Throttle::within(OLD, setting)
+    }
+
+    /// Of the new width.
+    pub fn wide(setting: Setting) -> Self {
+        Throttle::within(NEW, setting)
+    }
+
+    pub fn within(limits: Limits, setting: Setting) -> Self {
         let seeds = house_seeds();
-        let config = Config::new(setting, &seeds);
+        let config = Config::new(setting, &seeds).within(limits);
         let mut state = State::cleared(&accept(&config).unwrap());
         assert_eq!(setup(&config, &mut state), 0);
         Throttle {
             setting,
             seeds,
+            limits,
             fault: Fault::None,
             state,
         }
@@ -102,12 +122,18 @@ impl Throttle {
     }
 
     pub fn setup(&mut self) -> u32 {
-        setup(&Config::new(self.setting, &self.seeds), &mut self.state)
+        let Throttle {
+            setting, limits, ..
+        } = *self;
+        let config = Config::new(setting, &self.seeds).within(limits);
+        setup(&config, &mut self.state)
     }
 
     /// A request: the refusal, or answer, wait tick and openings left.
     pub fn ask(&mut self, tick: u64, bank: u64, thread: u64, row: u16) -> Result<[u64; 3], u32> {
-        let config = Config::new(self.setting, &self.seeds).with(self.fault);
+        let config = Config::new(self.setting, &self.seeds)
+            .within(self.limits)
+            .with(self.fault);
         let mut out = [77, 78, 79];
         match request(&config, &mut self.state, tick, bank, thread, row, &mut out) {
             0 => Ok(out),
@@ -130,13 +156,17 @@ impl Throttle {
     }
 
     pub fn done(&mut self, tick: u64, bank: u64, thread: u64) -> u32 {
-        let config = Config::new(self.setting, &self.seeds).with(self.fault);
+        let config = Config::new(self.setting, &self.seeds)
+            .within(self.limits)
+            .with(self.fault);
         done(&config, &mut self.state, tick, bank, thread)
     }
 
     /// An index reading: the refusal, or c, D and the quota.
     pub fn index(&mut self, tick: u64, bank: u64, thread: u64) -> Result<[u64; 3], u32> {
-        let config = Config::new(self.setting, &self.seeds).with(self.fault);
+        let config = Config::new(self.setting, &self.seeds)
+            .within(self.limits)
+            .with(self.fault);
         let mut out = [77, 78, 79];
         match index(&config, &mut self.state, tick, bank, thread, &mut out) {
             0 => Ok(out),

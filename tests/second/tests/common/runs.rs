@@ -2,16 +2,20 @@
 
 use super::{Numbers, BANKS, L, N, Q, TD, THREADS, W};
 use second::setting::{history_length, house_seeds, row_bound};
-use second::{done, index, request, Config, Setting, State};
+use second::{done, index, request, setup, Config, Setting, State};
 
-/// One call of a run: kind 0 is a done, 1 an index reading, any other a request.
+/// The kind of a set-up, which only some runs have.
+pub const SETUP: u64 = 9;
+
+/// One call of a run: kind 0 is a done, 1 an index reading, `SETUP` a set-up, any
+/// other a request.
 #[derive(Clone, Copy)]
 pub struct Call {
     pub kind: u64,
-    tick: u64,
-    bank: u64,
-    thread: u64,
-    row: u16,
+    pub tick: u64,
+    pub bank: u64,
+    pub thread: u64,
+    pub row: u16,
 }
 
 /// A setting, the memory it starts from and the calls.
@@ -48,7 +52,7 @@ pub fn setting(numbers: &mut Numbers) -> Setting {
 }
 
 /// Memory just long enough for a setting, accepted or not.
-fn fresh(setting: &Setting) -> State {
+pub fn fresh(setting: &Setting) -> State {
     let h = history_length(&Config::new(*setting, &[])).unwrap() as usize;
     let (banks, threads) = (setting[BANKS] as usize, setting[THREADS] as usize);
     State {
@@ -83,7 +87,7 @@ fn fill(numbers: &mut Numbers, setting: &Setting, state: &mut State) {
         *word = (numbers.within(0, setting[BANKS]) * 65_536 + numbers.within(0, 2)) as u32;
     }
     for cell in &mut state.counters {
-        *cell = numbers.within(0, setting[N] + 2) as u16;
+        *cell = numbers.within(0, setting[N] + 2) as u32;
     }
     for cell in &mut state.threads {
         let top = if numbers.one_in(5) { 20 } else { 1 };
@@ -208,6 +212,7 @@ pub fn answer(config: &Config, state: &mut State, call: &Call) -> (u32, [u64; 3]
     let number = match call.kind {
         0 => done(config, state, tick, bank, thread),
         1 => index(config, state, tick, bank, thread, &mut out),
+        SETUP => setup(config, state),
         _ => request(config, state, tick, bank, thread, row, &mut out),
     };
     (number, out)
