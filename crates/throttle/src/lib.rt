@@ -67,7 +67,9 @@ pub extern "C" fn throttle_request(
 ) -> u32
     ensures { λ r. ⌜ left r (now (out .exit)) (now (head .exit)) (now (counters .exit)) (now (ticks .exit)) (now (rows .exit)) (now (threads .exit)) ≡ leaves (step narrow (settingOf (now (setting .entry))) (now (seeds .entry)) (found (now (head .entry)) (now (counters .entry)) (now (ticks .entry)) (now (rows .entry)) (now (threads .entry))) (request tick bank thread row)) (now (out .entry)) (now (head .entry)) ⌝ }
 {
+    let limits = narrow_limits();
     narrow_request::request(
+        limits,
         setting,
         seeds,
         head,
@@ -200,7 +202,9 @@ pub extern "C" fn throttle_wide_request(
 ) -> u32
     ensures { λ r. ⌜ left r (now (out .exit)) (now (head .exit)) (now (counters .exit)) (now (ticks .exit)) (now (rows .exit)) (now (threads .exit)) ≡ leaves (step wide (settingOf (now (setting .entry))) (now (seeds .entry)) (found (now (head .entry)) (now (counters .entry)) (now (ticks .entry)) (now (rows .entry)) (now (threads .entry))) (request tick bank thread row)) (now (out .entry)) (now (head .entry)) ⌝ }
 {
+    let limits = wide_limits();
     wide_request::request(
+        limits,
         setting,
         seeds,
         head,
@@ -302,8 +306,9 @@ pub extern "C" fn throttle_change_over(
 ) -> u32
     ensures { λ r. ⌜ changedOver r (now (counters .exit)) ≡ changeOver (settingOf (now (setting .entry))) (now (seeds .entry)) (found (now (head .entry)) (now (old .entry)) (now (ticks .entry)) (now (rows .entry)) (now (threads .entry))) (now (counters .entry)) ⌝ }
 {
+    let old_limits = narrow_limits();
     change_over(
-        narrow_limits(),
+        old_limits,
         setting,
         seeds,
         head,

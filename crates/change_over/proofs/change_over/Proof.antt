@@ -18,9 +18,10 @@ use borrow.Author.Needs.{needs}
 use Rattle.change_over.proofs.change_over.Statement.{statement}
 use Rattle.change_over.proofs.change_over.Tie as tie
 
+
 -- the start, from where the code is known, and where it is 0
 abbrev asked : tie.After-lent-refusal → tie.Start
-asked c = (c .before .before .before .before .before .before .before .before .before .before)
+asked c = (c .before .before .before .before .before .before .before .before .before)
 
 abbrev begun : tie.Else1 → tie.Start
 begun c = asked (c .before)
@@ -31,9 +32,10 @@ s c = settingOf (c .args .setting .now)
 -- the code is that of the tests with the old limits and the shorter of the two counter buffers
 code-is : (c : tie.After-lent-refusal) → let start = asked c in let a = start .args in c .lent-refusal .result ≡ refusalNumber (lentTest limits01 (s start) (a .seeds .now) (headOf (a .head .now)) (min (length (a .old .now)) (length (a .counters .now))) (a .ticks .now) (length (a .rows .now)) (length (a .threads .now)) true)
 code-is c =
-    let a = asked c .args in
+    let start = asked c in
+    let a = start .args in
     c .lent-refusal .ensures
-    ∙ ap₂ (λ m n. refusalNumber (lentTest m (s (asked c)) (a .seeds .now) (headOf (a .head .now)) n (a .ticks .now) (length (a .rows .now)) (length (a .threads .now)) true)) (c .before .before .narrow-limits .ensures) (c .before .shorter .ensures)
+    ∙ ap₂ (λ m n. refusalNumber (lentTest m (s start) (a .seeds .now) (headOf (a .head .now)) n (a .ticks .now) (length (a .rows .now)) (length (a .threads .now)) true)) (start .pre) (c .before .shorter .ensures)
 
 ok : (c : tie.Else1) → let start = begun c in let a = start .args in Taken (s start) (a .seeds .now) (found (a .head .now) (a .old .now) (a .ticks .now) (a .rows .now) (a .threads .now)) (a .counters .now)
 ok c =
@@ -44,14 +46,11 @@ ok c =
 difference-requires : tie.Need-difference-requires
 difference-requires c κs = search needs
 
-narrow-limits-requires : tie.Need-narrow-limits-requires
-narrow-limits-requires c κs = search needs
-
 shorter-requires : tie.Need-shorter-requires
 shorter-requires c κs = search needs
 
 lent-refusal-requires : tie.Need-lent-refusal-requires
-lent-refusal-requires c κs = (rw (c .before .narrow-limits .ensures) (omega arith), c .before .before .difference .ensures)
+lent-refusal-requires c κs = (rw (c .before .before .before .before .before .before .before .before .pre) (omega arith), c .before .difference .ensures)
 
 returns : tie.Need-returns
 returns c =
@@ -88,7 +87,6 @@ change-over-spec =
     tie.close
     (tie.spec
     difference-requires
-    narrow-limits-requires
     shorter-requires
     lent-refusal-requires
     returns
