@@ -18,7 +18,6 @@ use borrow.Author.Needs.{needs}
 use Rattle.change_over.proofs.change_over.Statement.{statement}
 use Rattle.change_over.proofs.change_over.Tie as tie
 
-
 -- the start, from where the code is known, and where it is 0
 abbrev asked : tie.After-lent-refusal → tie.Start
 asked c = (c .before .before .before .before .before .before .before .before .before)

@@ -9,7 +9,6 @@ use borrow.Author.Needs.{needs}
 use Rattle.narrow_request.proofs.request.Statement.{statement}
 use Rattle.narrow_request.proofs.request.Tie as tie
 
-
 -- the way back
 abbrev begun : tie.After-tested → tie.Start
 begun c = (c .before .before .before .before .before .before .before .before)
