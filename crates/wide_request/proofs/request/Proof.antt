@@ -1,7 +1,8 @@
 -- `request` is refused as the rules say, or is the rules' request.
-use mathlib.Core.Path.{sym, ap, _∙_}
+use mathlib.Core.Path.{_≡_, sym, ap, _∙_}
 use native.Mathlib.Omega.{arith}
 use lib.ListN.{getD}
+use Rattle.rules.specs.Setting.{settingOf}
 use Rattle.rules.specs.State.{State, state}
 use Rattle.rules.specs.Policy.{limits02}
 use Rattle.lent_request.proofs.Settled.{Asks, request-refused, in-head, request-free, request-held, request-left}
@@ -13,11 +14,21 @@ use Rattle.wide_request.proofs.request.Tie as tie
 abbrev begun : tie.After-tested → tie.Start
 begun c = (c .before .before .before .before .before .before .before .before)
 
-abbrev known : tie.After-load-head → tie.After-tested
-known c = (c .before .before .before .before .before)
+abbrev known : tie.Else1 → tie.After-tested
+known c = (c .before .before)
+
+abbrev passed : tie.After-load-head → tie.Else1
+passed c = (c .before .before .before)
 
 abbrev headed : tie.After-request → tie.After-load-head
 headed c = (c .before .before .before .before .before .before .before)
+
+abbrev replied : tie.After-told-arg2 → tie.After-request
+replied c = (c .before .before .before .before .before .before .before .before .before .before .before)
+
+-- the setting that was loaded is the one that was lent
+loaded : (c : tie.After-load-head) → c .before .before .load .result ≡ settingOf (begun (known (passed c)) .args .setting .now)
+loaded c = c .before .before .load .ensures
 
 -- what the call is asked with
 abbrev asks : tie.After-tested → Asks limits02
@@ -61,24 +72,27 @@ load-head-requires c κs = search needs
 
 bank-word-requires : tie.Need-bank-word-requires
 bank-word-requires c κs =
-    let at = known (c .before) in
-    in-head (asks at) _ _ (begun at .pre) (at .tested .ensures .0) (c .before .before .before .before .if1 .left)
+    let free = passed (c .before) in
+    let at = known free in
+    in-head (asks at) _ _ (begun at .pre) (at .tested .ensures .0) (free .if1 .left)
 
 request-requires : tie.Need-request-requires
 request-requires c κs =
     let h = (c .before .before .before .before .before .before) in
-    let at = known h in (
-      request-free (asks at) _ _ (begun at .pre) (at .tested .ensures .0) (c .before .before .before .before .before .before .before .before .before .if1 .left) _ _ (c .before .before .before .before .before .before .before .before .load .ensures) (h .load-head .ensures),
+    let free = passed h in
+    let at = known free in (
+      request-free (asks at) _ _ (begun at .pre) (at .tested .ensures .0) (free .if1 .left) _ _ (loaded h) (h .load-head .ensures),
       c .before .before .before .before .bank-word .ensures ∙ ap (λ x. getD (x .bank) (begun at .args .bank) 0) (sym (h .load-head .ensures)),
       at .tested .ensures .1,
     )
 
 told-requires : tie.Need-told-requires
 told-requires c κs =
-    let r = (c .before .before .before .before .before .before .before .before .before .before .before) in
+    let r = replied c in
     let h = headed r in
-    let at = known h in
-    request-held (asks at) _ _ (begun at .pre) (at .tested .ensures .0) (c .before .before .before .before .before .before .before .before .before .before .before .before .before .before .before .before .before .before .before .before .before .if1 .left) _ _ (c .before .before .before .before .before .before .before .before .before .before .before .before .before .before .before .before .before .before .before .before .load .ensures) (h .load-head .ensures) (r .request .result .answer) (after r) (r .request .ensures .0)
+    let free = passed h in
+    let at = known free in
+    request-held (asks at) _ _ (begun at .pre) (at .tested .ensures .0) (free .if1 .left) _ _ (loaded h) (h .load-head .ensures) (r .request .result .answer) (after r) (r .request .ensures .0)
 
 same-length-2 : tie.Need-same-length-2
 same-length-2 c = search needs
@@ -94,11 +108,12 @@ same-length-5 c = search needs
 
 returns-2 : tie.Need-returns-2
 returns-2 c =
-    let r = (c .before .before .before .before .before .before .before .before .before .before .before .before) in
+    let r = replied (c .before) in
     let h = headed r in
-    let at = known h in
+    let free = passed h in
+    let at = known free in
     rw (c .told .ensures .0, c .told .ensures .1)
-    (request-left (asks at) _ _ (begun at .pre) (at .tested .ensures .0) (c .before .before .before .before .before .before .before .before .before .before .before .before .before .before .before .before .before .before .before .before .before .before .if1 .left) _ _ (c .before .before .before .before .before .before .before .before .before .before .before .before .before .before .before .before .before .before .before .before .before .load .ensures) (h .load-head .ensures) (r .request .result .answer) (after r) (r .request .ensures .0))
+    (request-left (asks at) _ _ (begun at .pre) (at .tested .ensures .0) (free .if1 .left) _ _ (loaded h) (h .load-head .ensures) (r .request .result .answer) (after r) (r .request .ensures .0))
 
 pub request-spec : {M : Type 1} → statement M
 request-spec =
