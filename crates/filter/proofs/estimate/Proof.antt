@@ -66,8 +66,9 @@ least-requires-3 c κs = search needs
 
 returns : tie.Need-returns
 returns c =
-    let a = c .before .before .before .before .before .before .before .before .args in
-    estimate-part (a .part .now) (a .f) _ (c .before .before .before .before .least .result) (c .before .least2 .result) (c .least3 .result) (c .before .before .before .before .least .ensures) (c .before .least2 .ensures) (c .least3 .ensures)
+    let first = (c .before .before .before .before) in
+    let a = first .before .before .before .before .args in
+    estimate-part (a .part .now) (a .f) _ (first .least .result) (c .before .least2 .result) (c .least3 .result) (first .least .ensures) (c .before .least2 .ensures) (c .least3 .ensures)
 
 pub estimate-spec : {M : Type 1} → statement M
 estimate-spec =

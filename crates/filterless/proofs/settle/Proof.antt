@@ -17,6 +17,10 @@ decision-is c =
     let a = begun c .args in
     decided (a .s) (a .active) (a .other) (a .h) (a .ticks .now) (a .rows .now) (a .threads .now) (a .bank) (a .thread) (a .row) (c .before .look .result) (c .decide .result) (c .before .look .ensures) (c .decide .ensures)
 
+-- where the row is opened, from before the activation
+abbrev branched : tie.After-struct-known → tie.Else1
+branched c = (c .before .before .before .before)
+
 -- whether the row is opened, in the two branches
 waits : (c : tie.Then1) → opens (c .before .before .decide .result) ≡ false
 waits c = sym (c .before .opens .ensures) ∙ not-not (c .before .opens .result) true (c .if1 .taken)
@@ -52,8 +56,8 @@ returns c = (decision-is (c .before .before), record { waits = λ e. (refl, refl
 
 activate-requires : tie.Need-activate-requires
 activate-requires c κs =
-    let branch = (c .before .before .before .before) in
-    let at = (c .before .before .before .before .before .before) in
+    let branch = branched c in
+    let at = (branch .before .before) in
     let p = begun at .pre in
     (p .0, p .3 (ap opens (sym (decision-is at)) ∙ opened branch))
 
@@ -68,8 +72,10 @@ same-length-6 c = search needs
 
 returns-2 : tie.Need-returns-2
 returns-2 c =
-    let q = c .before .before .before .before .before .before .activate .ensures in
-    (decision-is (c .before .before .before .before .before .before .before .before .before .before .before .before .before), record { waits = λ e. never _ (opened (c .before .before .before .before .before .before .before .before .before .before .before)) e; opened = λ e. (q .0, q .1, q .2, q .3) })
+    let made = (c .before .before .before .before .before .before) in
+    let branch = branched (made .before) in
+    let q = made .activate .ensures in
+    (decision-is (branch .before .before), record { waits = λ e. never _ (opened branch) e; opened = λ e. (q .0, q .1, q .2, q .3) })
 
 pub settle-spec : {M : Type 1} → statement M
 settle-spec =

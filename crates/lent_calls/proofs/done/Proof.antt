@@ -57,8 +57,9 @@ done-requires c κs =
 
 store-clock-requires : tie.Need-store-clock-requires
 store-clock-requires c κs =
+    let d = c .before .before .before .before .done in
     let a = begun (c .before .before .before .before .before .before .before .before .before) .args in
-    moved-alone (headOf (a .head .now)) (c .before .before .before .before .done .result .head) (a .tick) (rw (c .before .before .before .before .before .before .load-head .ensures) at (c .before .before .before .before .done .ensures .0))
+    moved-alone (headOf (a .head .now)) (d .result .head) (a .tick) (rw (c .before .before .before .before .before .before .load-head .ensures) at (d .ensures .0))
 
 same-length-2 : tie.Need-same-length-2
 same-length-2 c = search needs
@@ -70,8 +71,10 @@ returns-2 c =
     let a = start .args in
     let e = here .before .done-refusal .ensures in
     let ok = done-ok (a .m) (s start) (a .seeds .now) (a .head .now) (a .counters) (a .ticks .now) (a .rows .now) (a .threads .now) (a .tick) (a .bank) (a .thread) _ e (here .if1 .left) .0 in
-    let q = rw (c .before .before .before .before .before .before .before .before .before .load .ensures, c .before .before .before .before .before .before .before .load-head .ensures) at (c .before .before .before .before .before .done .ensures) in
-    rw (c .before .before .before .before .before .before .before .before .before .load .ensures, c .store-clock .ensures) (
+    let lent = c .before .before .before .before .before .before .before .before .before .load .ensures in
+    let found = c .before .before .before .before .before .before .before .load-head .ensures in
+    let q = rw (lent, found) at (c .before .before .before .before .before .done .ensures) in
+    rw (lent, c .store-clock .ensures) (
       ok .setting .ranges .banks-high,
       room (a .m) (s start) (a .seeds .now) (a .head .now) (a .counters) (a .ticks .now) (a .rows .now) (a .threads .now) (a .tick) (a .bank) (a .thread) ok,
       q .4,

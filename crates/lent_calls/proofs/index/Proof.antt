@@ -63,8 +63,9 @@ index-requires c κs =
 
 store-clock-requires : tie.Need-store-clock-requires
 store-clock-requires c κs =
+    let t = c .before .before .before .before .before .before .turn in
     let a = begun (c .before .before .before .before .before .before .before .before .before .before .before) .args in
-    moved-alone (headOf (a .head .now)) (c .before .before .before .before .before .before .turn .result .head) (a .tick) (rw (c .before .before .before .before .before .before .before .before .load-head .ensures) at (c .before .before .before .before .before .before .turn .ensures .0))
+    moved-alone (headOf (a .head .now)) (t .result .head) (a .tick) (rw (c .before .before .before .before .before .before .before .before .load-head .ensures) at (t .ensures .0))
 
 same-length : tie.Need-same-length
 same-length c = search needs
@@ -76,9 +77,11 @@ returns-2 c =
     let a = start .args in
     let e = here .before .call-refusal .ensures in
     let k = ok here in
-    let t = rw (c .before .before .before .before .before .before .before .before .before .before .before .before .load .ensures, c .before .before .before .before .before .before .before .before .before .before .load-head .ensures) at (c .before .before .before .before .before .before .before .before .turn .ensures) in
-    let y = rw (c .before .before .before .before .before .before .before .before .before .before .before .before .load .ensures) at (c .before .before .before .index .ensures) in
-    rw (c .before .before .before .before .before .before .before .before .before .before .before .before .load .ensures, c .before .store-clock .ensures) (
+    let lent = c .before .before .before .before .before .before .before .before .before .before .before .before .load .ensures in
+    let found = c .before .before .before .before .before .before .before .before .before .before .load-head .ensures in
+    let t = rw (lent, found) at (c .before .before .before .before .before .before .before .before .turn .ensures) in
+    let y = rw lent at (c .before .before .before .index .ensures) in
+    rw (lent, c .before .store-clock .ensures) (
       k .setting .ranges .banks-high,
       room (a .m) (s start) (a .seeds .now) (a .head .now) (a .counters) (a .ticks .now) (a .rows .now) (a .threads .now) (a .tick) (a .bank) (a .thread) k,
       t .4,

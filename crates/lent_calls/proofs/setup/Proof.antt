@@ -19,6 +19,10 @@ asked c = (c .before .before .before .before .before .before .before .before)
 abbrev begun : tie.Else1 → tie.Start
 begun c = asked (c .before)
 
+-- where the code is 0, from the end
+abbrev free : tie.After-struct-known → tie.Else1
+free c = (c .before .before .before .before .before .before .before .before .before .before .before .before .before .before)
+
 abbrev s : tie.Start → Setting
 s c = settingOf (c .args .setting .now)
 
@@ -60,8 +64,7 @@ store-head-requires c κs = search needs
 
 mul-t27 : tie.Need-mul-t27
 mul-t27 c =
-    let here = (c .before .before .before .before .before .before .before .before .before .before .before .before .before .before) in
-    rw (c .before .before .before .before .before .before .before .before .before .before .before .before .before .load .ensures) (omega (arith, ok here .setting .ranges .banks-high))
+    rw (c .before .before .before .before .before .before .before .before .before .before .before .before .before .load .ensures) (omega (arith, ok (free c) .setting .ranges .banks-high))
 
 same-length-2 : tie.Need-same-length-2
 same-length-2 c = search needs
@@ -74,12 +77,13 @@ same-length-4 c = search needs
 
 returns-2 : tie.Need-returns-2
 returns-2 c =
-    let here = (c .before .before .before .before .before .before .before .before .before .before .before .before .before .before) in
+    let here = free c in
     let start = begun here in
     let a = start .args in
     let e = here .before .lent-refusal .ensures in
-    let f = rw (c .before .before .before .before .before .before .before .before .before .before .before .before .before .load .ensures) at (c .before .before .before .before .before .before .before .before .before .fresh .ensures) in
-    rw (c .before .before .before .before .before .before .before .before .before .before .before .before .before .load .ensures, c .before .store-head .ensures) (
+    let lent = c .before .before .before .before .before .before .before .before .before .before .before .before .before .load .ensures in
+    let f = rw lent at (c .before .before .before .before .before .before .before .before .before .fresh .ensures) in
+    rw (lent, c .before .store-head .ensures) (
       setup-room (a .m) (s start) (a .seeds .now) (a .head .now) (a .counters) (a .ticks .now) (a .rows .now) (a .threads .now) _ e (here .if1 .left),
       setup-done (a .m) (s start) (a .seeds .now) (a .head .now) (a .counters) (a .ticks .now) (a .rows .now) (a .threads .now) _ e (here .if1 .left) _ _ _ _ (f .0) (f .1) (f .2) (f .3),
     )

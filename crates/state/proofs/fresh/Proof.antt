@@ -8,6 +8,13 @@ use borrow.Author.Needs.{needs}
 use Rattle.state.proofs.fresh.Statement.{statement}
 use Rattle.state.proofs.fresh.Tie as tie
 
+-- the start, from where H is known; and that, from before the thread counters are cleared
+abbrev begun : tie.After-history-length → tie.Start
+begun c = (c .before .before .before .before .before .before)
+
+abbrev measured : tie.After-struct-known → tie.After-history-length
+measured c = (c .before .before .before .before .before .before .before)
+
 -- the cells of the thread counters
 cells-fit : (c : tie.Start) → (c .args .s .banks * c .args .s .threads ≤ 512)
 cells-fit c = let r = c .pre .0 .ranges in cells-small (c .args .s .banks) (c .args .s .threads) (r .banks-high) (r .threads-high)
@@ -16,13 +23,13 @@ history-length-requires : tie.Need-history-length-requires
 history-length-requires c κs = search needs
 
 clear-requires : tie.Need-clear-requires
-clear-requires c κs = rw (c .history-length .ensures) (c .before .before .before .before .before .before .pre .1, c .before .before .before .before .before .before .pre .2)
+clear-requires c κs = rw (c .history-length .ensures) (begun c .pre .1, begun c .pre .2)
 
 mul-clear32 : tie.Need-mul-clear32
-mul-clear32 c = omega (arith, cells-fit (c .before .before .before .before .before .before .before .before .before .before .before .before .before))
+mul-clear32 c = omega (arith, cells-fit (begun (measured c)))
 
 mul-clear32-2 : tie.Need-mul-clear32-2
-mul-clear32-2 c = omega (arith, cells-fit (c .before .before .before .before .before .before .before .before .before .before .before .before .before))
+mul-clear32-2 c = omega (arith, cells-fit (begun (measured c)))
 
 clear32-requires : tie.Need-clear32-requires
 clear32-requires c κs = search needs
@@ -40,7 +47,7 @@ returns : tie.Need-returns
 unfolding freshHead
 returns c =
     let cleared = (c .before .before .before .before .before .before .before .before .before) in
-    rw (cleared .clear .ensures .0, cleared .clear .ensures .1, c .before .before .clear32 .ensures, c .before .before .before .before .before .before .before .before .before .before .history-length .ensures) (refl, refl, refl, refl)
+    rw (cleared .clear .ensures .0, cleared .clear .ensures .1, c .before .before .clear32 .ensures, cleared .before .history-length .ensures) (refl, refl, refl, refl)
 
 pub fresh-spec : {M : Type 1} → statement M
 fresh-spec =

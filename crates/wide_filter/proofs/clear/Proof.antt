@@ -12,7 +12,9 @@ same-length : tie.Need-same-length
 same-length c = search needs
 
 returns : tie.Need-returns
-returns c = c .before .before .clear-run .ensures ∙ run-used (c .before .before .before .before .before .args .used) (c .before .before .before .before .before .args .counters .now)
+returns c =
+    let a = c .before .before .before .before .before .args in
+    c .before .before .clear-run .ensures ∙ run-used (a .used) (a .counters .now)
 
 pub clear-spec : {M : Type 1} → statement M
 clear-spec =
