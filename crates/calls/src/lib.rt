@@ -5,9 +5,10 @@ use answers::openings_left;
 use answers::opens;
 use filter::bank_estimate;
 use filter_count::count;
+use filterless::Decided;
+use filterless::Estimates;
 use filterless::settle;
 use head::Head;
-use rules::Answer;
 use rules::Setting;
 ghost use mathlib.Core.Path.{_≡_};
 ghost use Prim.Native.Nat.{_-_, _*_, _%_, _^_, _≤_, _<_};
@@ -21,12 +22,6 @@ ghost use Rattle.rules.specs.Policy.{limits01, narrow};
 ghost use Rattle.rules.specs.Tested.{Sound};
 ghost use Rattle.rules.specs.Calls.{answered, callRefusal, outcome, requested};
 ghost use Rattle.hash_words.specs.Words.{TableFor};
-
-// The estimates of a row in the active and in the other filter.
-pub struct Estimates {
-    pub active: u64,
-    pub other: u64,
-}
 
 // Turns the filters from one epoch to another, and reads the estimates of a row with these places in filter 0 and filter 1 then.
 fn look(
@@ -46,12 +41,6 @@ fn look(
     let active = bank_estimate(&*counters, bank, first, second, f) as u64;
     let other = bank_estimate(&*counters, bank, first, second, 1 - f) as u64;
     Estimates { active, other }
-}
-
-// The answer to a request, with the head after it.
-pub struct Decided {
-    pub answer: Answer,
-    pub head: Head,
 }
 
 // Decides on a request and, where it is opened, makes the activation. stored is the bank's cell of the head; `table` says that the seeds are the

@@ -30,24 +30,19 @@ use Rattle.rules.proofs.Regular.{in-force-regular}
 use Rattle.rules.proofs.Fits as fits
 use Rattle.decision.specs.Numbers.{decideFrom, passiveEstimate, viewOf}
 use Rattle.decision.proofs.Views.{decide-view}
-use Rattle.state.specs.Ready.{Bounds, Ready}
+use Rattle.state.specs.Ready.{WithinWidest, Bounds, Ready}
 use Rattle.filterless.specs.Settles.{decisionBy, Settles}
 
 -- ---- what an accepted setting gives
 
--- the limits are within the widest
-pub record Within-widest (m : Limits) : Type 0 where
-  pub threshold : m .threshold ≤ limits02 .threshold
-  pub history : m .history ≤ limits02 .history
-
--- as those of both widths are
-pub narrow-widest : Within-widest limits01
+-- the limits of both widths
+pub narrow-widest : WithinWidest limits01
 narrow-widest = record { threshold = omega arith; history = omega arith }
 
-pub wide-widest : Within-widest limits02
+pub wide-widest : WithinWidest limits02
 wide-widest = record { threshold = omega arith; history = omega arith }
 
-pub bounds : {m : Limits} {s : Setting} {seeds : List ℕ} → Within-widest m → Accepted m s seeds → Bounds s
+pub bounds : {m : Limits} {s : Setting} {seeds : List ℕ} → WithinWidest m → Accepted m s seeds → Bounds s
 bounds w ok =
     let r = ok .ranges in
     record {
@@ -83,7 +78,7 @@ bounds w ok =
 
 -- its setting, the state that it finds, and its arguments; it meets none of refusals 1 to 9 and 16
 pub record Asked (m : Limits) : Type 0 where
-  pub widest : Within-widest m
+  pub widest : WithinWidest m
   pub s : Setting
   pub seeds : List ℕ
   pub found : State

@@ -3,6 +3,7 @@
 use answers::opens;
 use decision::decide;
 use head::Head;
+use rules::Answer;
 use rules::Decision;
 use rules::Setting;
 use state::Turned;
@@ -19,6 +20,12 @@ ghost use Rattle.rules.specs.Decision.{opens};
 ghost use Rattle.rules.specs.Calls.{oneLess};
 ghost use Rattle.state.specs.Ready.{Bounds, Ready};
 ghost use Rattle.filterless.specs.Settles.{decisionBy, Settles};
+
+// The estimates of a row in the active and in the other filter.
+pub struct Estimates {
+    pub active: u64,
+    pub other: u64,
+}
 
 // The decision on a request, and the head after it.
 pub struct Settled {
@@ -68,6 +75,12 @@ pub fn settle(
     }
     let head = state::activate(s, h, ticks, rows, threads, bank, thread, row, s.n <= active);
     Settled { decision: d, head }
+}
+
+// The answer to a request, with the head after it.
+pub struct Decided {
+    pub answer: Answer,
+    pub head: Head,
 }
 
 // A request done: one less in flight. Neither the history nor a filter plays a part.

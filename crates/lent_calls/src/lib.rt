@@ -17,8 +17,9 @@ ghost use lib.ListN.{length};
 ghost use Rattle.rules.specs.Cells.{clearCells};
 ghost use Rattle.rules.specs.Setting.{settingOf};
 ghost use Rattle.rules.specs.Clock.{turnedCounters};
-ghost use Rattle.rules.specs.Policy.{limits02, inForce};
+ghost use Rattle.rules.specs.Policy.{inForce};
 ghost use Rattle.rules.specs.Calls.{done, index, setup, step};
+ghost use Rattle.state.specs.Ready.{WithinWidest};
 ghost use Rattle.interface.specs.Left.{left, found, leaves};
 
 // The number of a refusal or 0, and how many counters are to be cleared.
@@ -38,7 +39,7 @@ pub fn setup(
     rows: &mut [u32],
     threads: &mut [u32],
 ) -> Cleared
-    requires { ⌜ (m .threshold ≤ limits02 .threshold) × (m .history ≤ limits02 .history) ⌝ }
+    requires { ⌜ WithinWidest m ⌝ }
     ensures { λ r. ⌜ (r .used ≤ counters) × ((cs : List ℕ) → length cs ≡ counters → left (r .code) [] (now (head .exit)) (clearCells (λ i. ltb i (r .used)) cs) (now (ticks .exit)) (now (rows .exit)) (now (threads .exit)) ≡ leaves (setup m (settingOf (now (setting .entry))) (now (seeds .entry)) (found (now (head .entry)) cs (now (ticks .entry)) (now (rows .entry)) (now (threads .entry)))) [] (now (head .entry))) ⌝ }
 {
     let differing = difference(seeds);
@@ -87,7 +88,7 @@ pub fn done(
     bank: u64,
     thread: u64,
 ) -> Clocked
-    requires { ⌜ (m .threshold ≤ limits02 .threshold) × (m .history ≤ limits02 .history) ⌝ }
+    requires { ⌜ WithinWidest m ⌝ }
     ensures { λ r. ⌜ (r .banks ≤ 16) × (r .banks * 2048 ≤ counters) × (r .from < 2 ^ 63) × ((cs : List ℕ) → length cs ≡ counters → left (r .code) [] (now (head .exit)) (turnedCounters (r .banks * 2048) (r .from) (r .to) cs) (now (ticks .entry)) (now (rows .entry)) (now (threads .exit)) ≡ leaves (step (inForce m) (settingOf (now (setting .entry))) (now (seeds .entry)) (found (now (head .entry)) cs (now (ticks .entry)) (now (rows .entry)) (now (threads .entry))) (done tick bank thread)) [] (now (head .entry))) ⌝ }
 {
     let differing = difference(seeds);
@@ -140,7 +141,7 @@ pub fn index(
     thread: u64,
     out: &mut [u64; 3],
 ) -> Clocked
-    requires { ⌜ (m .threshold ≤ limits02 .threshold) × (m .history ≤ limits02 .history) ⌝ }
+    requires { ⌜ WithinWidest m ⌝ }
     ensures { λ r. ⌜ (r .banks ≤ 16) × (r .banks * 2048 ≤ counters) × (r .from < 2 ^ 63) × ((cs : List ℕ) → length cs ≡ counters → left (r .code) (now (out .exit)) (now (head .exit)) (turnedCounters (r .banks * 2048) (r .from) (r .to) cs) (now (ticks .entry)) (now (rows .entry)) (now (threads .exit)) ≡ leaves (step (inForce m) (settingOf (now (setting .entry))) (now (seeds .entry)) (found (now (head .entry)) cs (now (ticks .entry)) (now (rows .entry)) (now (threads .entry))) (index tick bank thread)) (now (out .entry)) (now (head .entry))) ⌝ }
 {
     let differing = difference(seeds);

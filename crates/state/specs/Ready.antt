@@ -5,10 +5,16 @@ use mathlib.Core.List.{List}
 use lib.ListN.{length}
 use Rattle.head.specs.declared.Head.{Head}
 use Rattle.rules.specs.declared.Setting.{Setting}
+use Rattle.rules.specs.declared.Limits.{Limits}
 use Rattle.rules.specs.Setting.{epochLength, historyLength}
 use Rattle.rules.specs.State.{threadsUsed}
 use Rattle.rules.specs.Policy.{limits02}
 use Rattle.rules.specs.Tested.{Ranges, Memory}
+
+-- the limits of a width are within those of the widest counters
+pub record WithinWidest (m : Limits) : Type 0 where
+  pub threshold : m .threshold ≤ limits02 .threshold
+  pub history : m .history ≤ limits02 .history
 
 -- what the arithmetic of the calls needs of an accepted setting: it is proved for the limits of the widest counters
 pub record Bounds (s : Setting) : Type 0 where

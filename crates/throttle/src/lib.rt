@@ -33,7 +33,7 @@ pub extern "C" fn throttle_setup(
 ) -> u32
     ensures { λ r. ⌜ left r [] (now (head .exit)) (now (counters .exit)) (now (ticks .exit)) (now (rows .exit)) (now (threads .exit)) ≡ leaves (setup limits01 (settingOf (now (setting .entry))) (now (seeds .entry)) (found (now (head .entry)) (now (counters .entry)) (now (ticks .entry)) (now (rows .entry)) (now (threads .entry)))) [] (now (head .entry)) ⌝ }
 {
-    let x = lent_calls::setup(
+    let cleared = lent_calls::setup(
         narrow_limits(),
         setting,
         seeds,
@@ -43,8 +43,8 @@ pub extern "C" fn throttle_setup(
         rows,
         threads,
     );
-    filter_turn::clear(counters, x.used);
-    x.code
+    filter_turn::clear(counters, cleared.used);
+    cleared.code
 }
 
 // A request for a row: out gets the answer's number, the wait tick and the openings left.
@@ -102,7 +102,7 @@ pub extern "C" fn throttle_done(
 ) -> u32
     ensures { λ r. ⌜ left r [] (now (head .exit)) (now (counters .exit)) (now (ticks .exit)) (now (rows .exit)) (now (threads .exit)) ≡ leaves (step narrow (settingOf (now (setting .entry))) (now (seeds .entry)) (found (now (head .entry)) (now (counters .entry)) (now (ticks .entry)) (now (rows .entry)) (now (threads .entry))) (done tick bank thread)) [] (now (head .entry)) ⌝ }
 {
-    let x = lent_calls::done(
+    let clocked = lent_calls::done(
         narrow_limits(),
         setting,
         seeds,
@@ -115,8 +115,8 @@ pub extern "C" fn throttle_done(
         bank,
         thread,
     );
-    filter_turn::turn(counters, x.banks, x.from, x.to);
-    x.code
+    filter_turn::turn(counters, clocked.banks, clocked.from, clocked.to);
+    clocked.code
 }
 
 // The RowHammer likelihood index of a thread in a bank: out gets c, D and the quota.
@@ -137,7 +137,7 @@ pub extern "C" fn throttle_index(
 ) -> u32
     ensures { λ r. ⌜ left r (now (out .exit)) (now (head .exit)) (now (counters .exit)) (now (ticks .exit)) (now (rows .exit)) (now (threads .exit)) ≡ leaves (step narrow (settingOf (now (setting .entry))) (now (seeds .entry)) (found (now (head .entry)) (now (counters .entry)) (now (ticks .entry)) (now (rows .entry)) (now (threads .entry))) (index tick bank thread)) (now (out .entry)) (now (head .entry)) ⌝ }
 {
-    let x = lent_calls::index(
+    let reading = lent_calls::index(
         narrow_limits(),
         setting,
         seeds,
@@ -151,8 +151,8 @@ pub extern "C" fn throttle_index(
         thread,
         out,
     );
-    filter_turn::turn(counters, x.banks, x.from, x.to);
-    x.code
+    filter_turn::turn(counters, reading.banks, reading.from, reading.to);
+    reading.code
 }
 
 // Set-up at the new width: N to 2^20, H to 32,768.
@@ -169,8 +169,9 @@ pub extern "C" fn throttle_wide_setup(
 ) -> u32
     ensures { λ r. ⌜ left r [] (now (head .exit)) (now (counters .exit)) (now (ticks .exit)) (now (rows .exit)) (now (threads .exit)) ≡ leaves (setup limits02 (settingOf (now (setting .entry))) (now (seeds .entry)) (found (now (head .entry)) (now (counters .entry)) (now (ticks .entry)) (now (rows .entry)) (now (threads .entry)))) [] (now (head .entry)) ⌝ }
 {
-    let x = lent_calls::setup(
-        wide_limits(),
+    let new_limits = wide_limits();
+    let cleared = lent_calls::setup(
+        new_limits,
         setting,
         seeds,
         head,
@@ -179,8 +180,8 @@ pub extern "C" fn throttle_wide_setup(
         rows,
         threads,
     );
-    wide_filter::clear(counters, x.used);
-    x.code
+    wide_filter::clear(counters, cleared.used);
+    cleared.code
 }
 
 // A request at the new width.
@@ -237,7 +238,7 @@ pub extern "C" fn throttle_wide_done(
 ) -> u32
     ensures { λ r. ⌜ left r [] (now (head .exit)) (now (counters .exit)) (now (ticks .exit)) (now (rows .exit)) (now (threads .exit)) ≡ leaves (step wide (settingOf (now (setting .entry))) (now (seeds .entry)) (found (now (head .entry)) (now (counters .entry)) (now (ticks .entry)) (now (rows .entry)) (now (threads .entry))) (done tick bank thread)) [] (now (head .entry)) ⌝ }
 {
-    let x = lent_calls::done(
+    let clocked = lent_calls::done(
         wide_limits(),
         setting,
         seeds,
@@ -250,8 +251,8 @@ pub extern "C" fn throttle_wide_done(
         bank,
         thread,
     );
-    wide_filter::turn(counters, x.banks, x.from, x.to);
-    x.code
+    wide_filter::turn(counters, clocked.banks, clocked.from, clocked.to);
+    clocked.code
 }
 
 // The RowHammer likelihood index of a thread in a bank, at the new width.
@@ -272,7 +273,7 @@ pub extern "C" fn throttle_wide_index(
 ) -> u32
     ensures { λ r. ⌜ left r (now (out .exit)) (now (head .exit)) (now (counters .exit)) (now (ticks .exit)) (now (rows .exit)) (now (threads .exit)) ≡ leaves (step wide (settingOf (now (setting .entry))) (now (seeds .entry)) (found (now (head .entry)) (now (counters .entry)) (now (ticks .entry)) (now (rows .entry)) (now (threads .entry))) (index tick bank thread)) (now (out .entry)) (now (head .entry)) ⌝ }
 {
-    let x = lent_calls::index(
+    let reading = lent_calls::index(
         wide_limits(),
         setting,
         seeds,
@@ -286,12 +287,12 @@ pub extern "C" fn throttle_wide_index(
         thread,
         out,
     );
-    wide_filter::turn(counters, x.banks, x.from, x.to);
-    x.code
+    wide_filter::turn(counters, reading.banks, reading.from, reading.to);
+    reading.code
 }
 
 // The change-over of a saved state with 16-bit counters to 32-bit ones: the used part of the new counters becomes the old counters, as numbers.
-// It rules out: counters cut to 16 bits or taken over for one bank, the limits of the new width, memory that is not tested. All but the new counters is
+// It rules out: counters cut to 15 bits, or taken over for one bank; the limits of the new width, memory that is not tested. All but the new counters is
 // lent for reading, so it moves no clock and clears nothing.
 #[no_mangle]
 pub extern "C" fn throttle_change_over(

@@ -2,9 +2,10 @@
 use answers::answer;
 use answers::openings_left;
 use answers::opens;
+use filterless::Decided;
+use filterless::Estimates;
 use filterless::settle;
 use head::Head;
-use rules::Answer;
 use rules::Setting;
 use wide_filter::bank_estimate;
 use wide_filter::count;
@@ -17,15 +18,8 @@ ghost use Rattle.rules.specs.Clock.{turnedCounters, turned};
 ghost use Rattle.rules.specs.Hash.{places};
 ghost use Rattle.rules.specs.Filter.{Within, two, estimate};
 ghost use Rattle.rules.specs.Policy.{limits02, wide};
-ghost use Rattle.rules.specs.Tested.{Sound};
 ghost use Rattle.rules.specs.Calls.{answered, callRefusal, outcome, requested};
 ghost use Rattle.hash_words.specs.Words.{TableFor};
-
-// The estimates of a row in the active and in the other filter.
-pub struct Estimates {
-    pub active: u64,
-    pub other: u64,
-}
 
 // Turns the filters from one epoch to another, and reads the estimates of a row with these places in filter 0 and filter 1 then.
 fn look(
@@ -47,12 +41,6 @@ fn look(
     Estimates { active, other }
 }
 
-// The answer to a request, with the head after it.
-pub struct Decided {
-    pub answer: Answer,
-    pub head: Head,
-}
-
 // Decides on a request and, where it is opened, makes the activation. stored is the bank's cell of the head; `table` says that the seeds are the
 // house seeds.
 pub fn request(
@@ -71,7 +59,7 @@ pub fn request(
     row: u16,
 ) -> Decided
     requires { ⌜ (callRefusal limits02 s (now seeds) (state h (now counters) (now ticks) (now rows) (now threads)) tick bank thread ≡ none) × (stored ≡ getD (h .bank) bank 0) × TableFor table (now seeds) ⌝ }
-    ensures { λ r. ⌜ (outcome (answered (r .answer)) (state (r .head) (now (counters .exit)) (now (ticks .exit)) (now (rows .exit)) (now (threads .exit))) ≡ requested wide s (λ f. places (now (seeds .entry)) row) (turned s (state h (now (counters .entry)) (now (ticks .entry)) (now (rows .entry)) (now (threads .entry))) tick) bank thread row) × Sound s (state (r .head) (now (counters .exit)) (now (ticks .exit)) (now (rows .exit)) (now (threads .exit))) ⌝ }
+    ensures { λ r. ⌜ outcome (answered (r .answer)) (state (r .head) (now (counters .exit)) (now (ticks .exit)) (now (rows .exit)) (now (threads .exit))) ≡ requested wide s (λ f. places (now (seeds .entry)) row) (turned s (state h (now (counters .entry)) (now (ticks .entry)) (now (rows .entry)) (now (threads .entry))) tick) bank thread row ⌝ }
 {
     let x = state::turn(s, h, threads, tick);
     let moved = x.head;

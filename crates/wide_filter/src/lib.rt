@@ -13,14 +13,14 @@ ghost use Rattle.filter_count.specs.Changes.{raisedAt};
 ghost use Rattle.filter_turn.specs.Changes.{inRun, inFilter};
 
 // The lesser of two counters.
-pub fn least(a: u32, b: u32) -> u32
+fn least(a: u32, b: u32) -> u32
     ensures { λ r. ⌜ r ≡ min a b ⌝ }
 {
     if a < b { a } else { b }
 }
 
 // The estimate of a row in filter f: the least of its four counters. part is the bank's own part of the counters.
-pub fn estimate(part: &[u32], at: [usize; 4], f: usize) -> u32
+fn estimate(part: &[u32], at: [usize; 4], f: usize) -> u32
     requires { ⌜ (2048 ≤ length (now part)) × (f < 2) × Within at ⌝ }
     ensures { λ r. ⌜ r ≡ estimate (now (part .entry)) 0 f at ⌝ }
 {

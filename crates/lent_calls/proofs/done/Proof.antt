@@ -6,7 +6,7 @@ use Rattle.rules.specs.declared.Setting.{Setting}
 use Rattle.rules.specs.Setting.{settingOf}
 use Rattle.rules.specs.State.{headOf}
 use Rattle.lent_request.proofs.Settled.{moved-alone}
-use Rattle.filterless.proofs.Requests.{Within-widest, bounds}
+use Rattle.filterless.proofs.Requests.{bounds}
 use Rattle.lent_calls.proofs.Leaves.{room, done-refused, done-ok, done-done}
 use borrow.Author.Needs.{needs}
 use Rattle.lent_calls.proofs.done.Statement.{statement}
@@ -22,14 +22,11 @@ begun c = asked (c .before)
 abbrev s : tie.Start → Setting
 s c = settingOf (c .args .setting .now)
 
-widest : (c : tie.Start) → Within-widest (c .args .m)
-widest c = record { threshold = c .pre .0; history = c .pre .1 }
-
 difference-requires : tie.Need-difference-requires
 difference-requires c κs = search needs
 
 done-refusal-requires : tie.Need-done-refusal-requires
-done-refusal-requires c κs = (c .before .before .before .before .before .before .before .pre .0, c .before .before .difference .ensures)
+done-refusal-requires c κs = (c .before .before .before .before .before .before .before .pre .threshold, c .before .before .difference .ensures)
 
 same-length : tie.Need-same-length
 same-length c = search needs
@@ -53,7 +50,7 @@ done-requires c κs =
     let a = start .args in
     let ok = done-ok (a .m) (s start) (a .seeds .now) (a .head .now) (a .counters) (a .ticks .now) (a .rows .now) (a .threads .now) (a .tick) (a .bank) (a .thread) _ (here .before .done-refusal .ensures) (here .if1 .left) in
     let k = ok .0 in
-    rw (c .before .before .before .load .ensures, c .before .load-head .ensures) (bounds (widest start) (k .setting), k .long .threads, k .bank-in, k .thread-in, ok .1, k .later)
+    rw (c .before .before .before .load .ensures, c .before .load-head .ensures) (bounds (start .pre) (k .setting), k .long .threads, k .bank-in, k .thread-in, ok .1, k .later)
 
 store-clock-requires : tie.Need-store-clock-requires
 store-clock-requires c κs =

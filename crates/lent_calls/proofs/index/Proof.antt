@@ -6,7 +6,7 @@ use Rattle.rules.specs.Setting.{settingOf}
 use Rattle.rules.specs.State.{headOf}
 use Rattle.rules.specs.Tested.{Taken}
 use Rattle.lent_request.proofs.Settled.{moved-alone}
-use Rattle.filterless.proofs.Requests.{Within-widest, bounds}
+use Rattle.filterless.proofs.Requests.{bounds}
 use Rattle.lent_calls.proofs.Leaves.{blank, room, index-refused, index-ok, index-done}
 use borrow.Author.Needs.{needs}
 use Rattle.lent_calls.proofs.index.Statement.{statement}
@@ -22,9 +22,6 @@ begun c = asked (c .before)
 abbrev s : tie.Start → Setting
 s c = settingOf (c .args .setting .now)
 
-widest : (c : tie.Start) → Within-widest (c .args .m)
-widest c = record { threshold = c .pre .0; history = c .pre .1 }
-
 ok : (c : tie.Else1) → let start = begun c in let a = start .args in Taken (a .m) (s start) (a .seeds .now) (blank (a .head .now) (a .counters) (a .ticks .now) (a .rows .now) (a .threads .now)) (a .tick) (a .bank) (a .thread)
 ok c =
     let start = begun c in
@@ -35,7 +32,7 @@ difference-requires : tie.Need-difference-requires
 difference-requires c κs = search needs
 
 call-refusal-requires : tie.Need-call-refusal-requires
-call-refusal-requires c κs = (c .before .before .before .before .before .before .pre .0, c .before .difference .ensures)
+call-refusal-requires c κs = (c .before .before .before .before .before .before .pre .threshold, c .before .difference .ensures)
 
 returns : tie.Need-returns
 returns c =
@@ -53,13 +50,13 @@ turn-requires : tie.Need-turn-requires
 turn-requires c κs =
     let here = (c .before .before .before .before) in
     let k = ok here in
-    rw (c .before .before .before .load .ensures, c .before .load-head .ensures) (bounds (widest (begun here)) (k .setting), k .long .threads, k .later)
+    rw (c .before .before .before .load .ensures, c .before .load-head .ensures) (bounds (begun here .pre) (k .setting), k .long .threads, k .later)
 
 index-requires : tie.Need-index-requires
 index-requires c κs =
     let here = (c .before .before .before .before .before .before .before .before .before) in
     let k = ok here in
-    rw (c .before .before .before .before .before .before .before .before .load .ensures) (bounds (widest (begun here)) (k .setting), omega (arith, k .long .threads, c .before .before .before .before .turn .kept .1 .1 .0), k .bank-in, k .thread-in)
+    rw (c .before .before .before .before .before .before .before .before .load .ensures) (bounds (begun here .pre) (k .setting), omega (arith, k .long .threads, c .before .before .before .before .turn .kept .1 .1 .0), k .bank-in, k .thread-in)
 
 store-clock-requires : tie.Need-store-clock-requires
 store-clock-requires c κs =

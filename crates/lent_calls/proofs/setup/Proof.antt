@@ -6,7 +6,7 @@ use Rattle.rules.specs.Setting.{settingOf}
 use Rattle.rules.specs.State.{countersUsed}
 use Rattle.rules.specs.Tested.{SetUp}
 use Rattle.interface.specs.Left.{leaves}
-use Rattle.filterless.proofs.Requests.{Within-widest, bounds}
+use Rattle.filterless.proofs.Requests.{bounds}
 use Rattle.lent_calls.proofs.Leaves.{blank, setup-refused, setup-ok, setup-room, setup-done}
 use borrow.Author.Needs.{needs}
 use Rattle.lent_calls.proofs.setup.Statement.{statement}
@@ -26,9 +26,6 @@ free c = (c .before .before .before .before .before .before .before .before .bef
 abbrev s : tie.Start → Setting
 s c = settingOf (c .args .setting .now)
 
-widest : (c : tie.Start) → Within-widest (c .args .m)
-widest c = record { threshold = c .pre .0; history = c .pre .1 }
-
 ok : (c : tie.Else1) → let start = begun c in let a = start .args in SetUp (a .m) (s start) (a .seeds .now) (blank (a .head .now) (a .counters) (a .ticks .now) (a .rows .now) (a .threads .now))
 ok c =
     let start = begun c in
@@ -39,7 +36,7 @@ difference-requires : tie.Need-difference-requires
 difference-requires c κs = search needs
 
 lent-refusal-requires : tie.Need-lent-refusal-requires
-lent-refusal-requires c κs = (c .before .before .before .before .before .before .before .pre .0, c .before .before .difference .ensures)
+lent-refusal-requires c κs = (c .before .before .before .before .before .before .before .pre .threshold, c .before .before .difference .ensures)
 
 same-length : tie.Need-same-length
 same-length c = search needs
@@ -57,7 +54,7 @@ fresh-requires : tie.Need-fresh-requires
 fresh-requires c κs =
     let here = (c .before .before .before .before) in
     let k = ok here in
-    rw (c .before .before .before .load .ensures) (bounds (widest (begun here)) (k .setting), k .long .ticks, k .long .rows, k .long .threads)
+    rw (c .before .before .before .load .ensures) (bounds (begun here .pre) (k .setting), k .long .ticks, k .long .rows, k .long .threads)
 
 store-head-requires : tie.Need-store-head-requires
 store-head-requires c κs = search needs

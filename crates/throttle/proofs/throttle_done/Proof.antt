@@ -1,6 +1,6 @@
 -- `throttle_done` turns the filters as the done says.
 use mathlib.Core.Path.{refl}
-use native.Mathlib.Omega.{arith}
+use Rattle.filterless.proofs.Requests.{narrow-widest}
 use borrow.Author.Needs.{needs}
 use Rattle.throttle.proofs.throttle_done.Statement.{statement}
 use Rattle.throttle.proofs.throttle_done.Tie as tie
@@ -9,7 +9,7 @@ narrow-limits-requires : tie.Need-narrow-limits-requires
 narrow-limits-requires c κs = search needs
 
 done-requires : tie.Need-done-requires
-done-requires c κs = rw (c .before .before .before .before .narrow-limits .ensures) (omega arith, omega arith)
+done-requires c κs = rw (c .before .before .before .before .narrow-limits .ensures) narrow-widest
 
 turn-requires : tie.Need-turn-requires
 turn-requires c κs =

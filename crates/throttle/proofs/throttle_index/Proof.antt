@@ -1,6 +1,6 @@
 -- `throttle_index` turns the filters as the reading says.
 use mathlib.Core.Path.{refl}
-use native.Mathlib.Omega.{arith}
+use Rattle.filterless.proofs.Requests.{narrow-widest}
 use borrow.Author.Needs.{needs}
 use Rattle.throttle.proofs.throttle_index.Statement.{statement}
 use Rattle.throttle.proofs.throttle_index.Tie as tie
@@ -9,7 +9,7 @@ narrow-limits-requires : tie.Need-narrow-limits-requires
 narrow-limits-requires c κs = search needs
 
 index-requires : tie.Need-index-requires
-index-requires c κs = rw (c .before .before .before .before .before .narrow-limits .ensures) (omega arith, omega arith)
+index-requires c κs = rw (c .before .before .before .before .before .narrow-limits .ensures) narrow-widest
 
 turn-requires : tie.Need-turn-requires
 turn-requires c κs =

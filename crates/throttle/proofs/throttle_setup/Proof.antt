@@ -1,6 +1,6 @@
 -- `throttle_setup` clears the filters as what is left of set-up says.
 use mathlib.Core.Path.{refl}
-use native.Mathlib.Omega.{arith}
+use Rattle.filterless.proofs.Requests.{narrow-widest}
 use borrow.Author.Needs.{needs}
 use Rattle.throttle.proofs.throttle_setup.Statement.{statement}
 use Rattle.throttle.proofs.throttle_setup.Tie as tie
@@ -9,7 +9,7 @@ narrow-limits-requires : tie.Need-narrow-limits-requires
 narrow-limits-requires c κs = search needs
 
 setup-requires : tie.Need-setup-requires
-setup-requires c κs = rw (c .before .before .before .before .narrow-limits .ensures) (omega arith, omega arith)
+setup-requires c κs = rw (c .before .before .before .before .narrow-limits .ensures) narrow-widest
 
 clear-requires : tie.Need-clear-requires
 clear-requires c κs = search needs

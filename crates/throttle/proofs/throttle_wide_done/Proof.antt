@@ -1,6 +1,6 @@
 -- `throttle_wide_done` turns the filters as the done says.
 use mathlib.Core.Path.{refl}
-use native.Mathlib.Omega.{arith}
+use Rattle.filterless.proofs.Requests.{wide-widest}
 use borrow.Author.Needs.{needs}
 use Rattle.throttle.proofs.throttle_wide_done.Statement.{statement}
 use Rattle.throttle.proofs.throttle_wide_done.Tie as tie
@@ -9,7 +9,7 @@ wide-limits-requires : tie.Need-wide-limits-requires
 wide-limits-requires c κs = search needs
 
 done-requires : tie.Need-done-requires
-done-requires c κs = rw (c .before .before .before .before .wide-limits .ensures) (omega arith, omega arith)
+done-requires c κs = rw (c .before .before .before .before .wide-limits .ensures) wide-widest
 
 turn-requires : tie.Need-turn-requires
 turn-requires c κs =

@@ -1,6 +1,6 @@
 -- `throttle_wide_index` turns the filters as the reading says.
 use mathlib.Core.Path.{refl}
-use native.Mathlib.Omega.{arith}
+use Rattle.filterless.proofs.Requests.{wide-widest}
 use borrow.Author.Needs.{needs}
 use Rattle.throttle.proofs.throttle_wide_index.Statement.{statement}
 use Rattle.throttle.proofs.throttle_wide_index.Tie as tie
@@ -9,7 +9,7 @@ wide-limits-requires : tie.Need-wide-limits-requires
 wide-limits-requires c κs = search needs
 
 index-requires : tie.Need-index-requires
-index-requires c κs = rw (c .before .before .before .before .before .wide-limits .ensures) (omega arith, omega arith)
+index-requires c κs = rw (c .before .before .before .before .before .wide-limits .ensures) wide-widest
 
 turn-requires : tie.Need-turn-requires
 turn-requires c κs =

@@ -1,6 +1,6 @@
 -- `throttle_wide_setup` clears the filters as what is left of set-up says.
 use mathlib.Core.Path.{refl}
-use native.Mathlib.Omega.{arith}
+use Rattle.filterless.proofs.Requests.{wide-widest}
 use borrow.Author.Needs.{needs}
 use Rattle.throttle.proofs.throttle_wide_setup.Statement.{statement}
 use Rattle.throttle.proofs.throttle_wide_setup.Tie as tie
@@ -9,7 +9,7 @@ wide-limits-requires : tie.Need-wide-limits-requires
 wide-limits-requires c κs = search needs
 
 setup-requires : tie.Need-setup-requires
-setup-requires c κs = rw (c .before .before .before .before .wide-limits .ensures) (omega arith, omega arith)
+setup-requires c κs = rw (c .before .before .before .before .wide-limits .ensures) wide-widest
 
 clear-requires : tie.Need-clear-requires
 clear-requires c κs = search needs

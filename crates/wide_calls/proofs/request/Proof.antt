@@ -141,7 +141,7 @@ returns c =
     let at = looked here in
     let z = here .settle in
     waits-at (asked (begun (turns at))) (read at) (z .result .decision) (z .ensures .0) (z .result .head) _ _ _ (z .ensures .1)
-    (c .answer .result) (waits (c .before)) (c .answer .ensures)
+    (c .answer .result) (waits (c .before)) (c .answer .ensures) .0
 
 cast-count : tie.Need-cast-count
 cast-count c = omega (arith, asked (begun (turns (looks (c .before .before)))) .taken .setting .ranges .n-high)
@@ -184,7 +184,7 @@ returns-2 c =
     let z = here .settle in
     let n = c .before .before .before .before .count in
     opens-at (asked (begun (turns at))) (read at) (z .result .decision) (z .ensures .0) (z .result .head) _ _ _ (z .ensures .1)
-    (c .answer2 .result) (n .last .0) (n .result) (opened branch) (n .ensures .0) (n .ensures .1) (c .answer2 .ensures ∙ ap (answerOf (z .result .decision)) (c .before .openings-left .ensures))
+    (c .answer2 .result) (n .last .0) (n .result) (opened branch) (n .ensures .0) (n .ensures .1) (c .answer2 .ensures ∙ ap (answerOf (z .result .decision)) (c .before .openings-left .ensures)) .0
 
 pub request-spec : {M : Type 1} → statement M
 request-spec =

@@ -92,7 +92,7 @@ told-requires c κs =
     let h = headed r in
     let free = passed h in
     let at = known free in
-    request-held (asks at) _ _ (begun at .pre) (at .tested .ensures .0) (free .if1 .left) _ _ (loaded h) (h .load-head .ensures) (r .request .result .answer) (after r) (r .request .ensures .0)
+    request-held (asks at) _ _ (begun at .pre) (at .tested .ensures .0) (free .if1 .left) _ _ (loaded h) (h .load-head .ensures) (r .request .result .answer) (after r) (r .request .ensures)
 
 same-length-2 : tie.Need-same-length-2
 same-length-2 c = search needs
@@ -113,7 +113,7 @@ returns-2 c =
     let free = passed h in
     let at = known free in
     rw (c .told .ensures .0, c .told .ensures .1)
-    (request-left (asks at) _ _ (begun at .pre) (at .tested .ensures .0) (free .if1 .left) _ _ (loaded h) (h .load-head .ensures) (r .request .result .answer) (after r) (r .request .ensures .0))
+    (request-left (asks at) _ _ (begun at .pre) (at .tested .ensures .0) (free .if1 .left) _ _ (loaded h) (h .load-head .ensures) (r .request .result .answer) (after r) (r .request .ensures))
 
 pub request-spec : {M : Type 1} → statement M
 request-spec =
