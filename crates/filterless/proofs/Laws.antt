@@ -8,7 +8,6 @@ use Rattle.head.specs.declared.Head.{Head}
 use Rattle.rules.specs.declared.Setting.{Setting}
 use Rattle.rules.specs.declared.Decision.{Decision}
 use Rattle.rules.specs.Policy.{narrow}
-use Rattle.rules.specs.Decision.{opens}
 use Rattle.decision.specs.declared.View.{View}
 use Rattle.decision.specs.Numbers.{decideFrom, viewOf}
 use Rattle.state.specs.Ready.{Ready}

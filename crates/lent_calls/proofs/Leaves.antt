@@ -1,17 +1,17 @@
 -- What set-up, done and index reading leave, for counters of any contents that have the length which was given.
-use Prim.Native.Nat.{ℕ, _*_, _%_, _≤_, _<_}
-use mathlib.Core.Path.{_≡_, refl, sym, ap, ap₂, _∙_, subst}
+use Prim.Native.Nat.{ℕ, _*_, _%_, _≤_}
+use mathlib.Core.Path.{_≡_, sym, ap, ap₂, _∙_, subst}
 use mathlib.Core.Logic.{_≢_}
 use mathlib.Core.List.{List, [], _∷_}
 use mathlib.Core.Bool.{false}
 use native.Mathlib.Omega.{arith}
-use lib.Dec.{T, ltb, ltb→lt}
+use lib.Dec.{ltb, ltb→lt}
 use lib.ListN.{length, getD, replicate, length-replicate}
 use Rattle.head.specs.declared.Head.{Head}
 use Rattle.head.specs.Head.{movedHead}
 use Rattle.rules.specs.declared.Limits.{Limits}
 use Rattle.rules.specs.declared.Setting.{Setting}
-use Rattle.rules.specs.Answers.{none, refusalNumber}
+use Rattle.rules.specs.Answers.{refusalNumber}
 use Rattle.rules.specs.Cells.{clearCells}
 use Rattle.rules.specs.Setting.{historyLength, indexScale}
 use Rattle.rules.specs.State.{State, countersUsed, threadsUsed, threadCell, state, headOf, headWords, freshHead, fresh}
@@ -19,12 +19,12 @@ use Rattle.rules.specs.Clock.{epoch, turnedCounters, turnedThreads, turned}
 use Rattle.rules.specs.Quota.{indexCounter, quotaEven}
 use Rattle.rules.specs.Policy.{inForce}
 use Rattle.rules.specs.Tested.{SetUp, Taken}
-use Rattle.rules.specs.Calls.{finished, outcome, Outcome, oneLess, request, done, index, setup, setupRefusal, callRefusal, doneRefusal, reported, indexShown, step}
+use Rattle.rules.specs.Calls.{finished, outcome, oneLess, done, index, setup, setupRefusal, callRefusal, doneRefusal, reported, indexShown, step}
 use Rattle.rules.proofs.Accept.{set-up, taken, done-taken, number-none, not-zero}
 use Rattle.rules.proofs.Clearing.{clear-none}
 use Rattle.rules.proofs.Clock.{counters-none}
 use Rattle.refusal.specs.Tests.{lentTest, callTest, doneTest}
-use Rattle.interface.specs.Left.{Left, left, found, leaves}
+use Rattle.interface.specs.Left.{left, found, leaves}
 use Rattle.lent_request.proofs.Settled.{left-refused, setup-code, call-code, done-code, left-setup, left-done, left-index}
 
 -- the state that a call finds, with some counters of the length

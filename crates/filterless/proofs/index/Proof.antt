@@ -1,6 +1,6 @@
 -- `index` reads the thread's counter in test.
 use Prim.Native.Nat.{_+_, _%_}
-use mathlib.Core.Path.{refl, ap, _∙_}
+use mathlib.Core.Path.{refl, ap}
 use native.Mathlib.Omega.{arith}
 use lib.ListN.{getD}
 use Rattle.thread_counters.proofs.Index.{cell-at}

@@ -1,7 +1,5 @@
 -- `done` is refused as the rules say, or is the rules' done but for the filters.
-use mathlib.Core.Path.{_≡_, ap, _∙_}
 use native.Mathlib.Omega.{arith}
-use Rattle.head.specs.declared.Head.{Head}
 use Rattle.rules.specs.declared.Setting.{Setting}
 use Rattle.rules.specs.Setting.{settingOf}
 use Rattle.rules.specs.State.{headOf}

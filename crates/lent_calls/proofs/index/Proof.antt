@@ -1,5 +1,4 @@
 -- `index` is refused as the rules say, or is the rules' index reading but for the filters.
-use mathlib.Core.Path.{_≡_, ap, _∙_}
 use native.Mathlib.Omega.{arith}
 use Rattle.rules.specs.declared.Setting.{Setting}
 use Rattle.rules.specs.Setting.{settingOf}
@@ -56,7 +55,8 @@ index-requires : tie.Need-index-requires
 index-requires c κs =
     let here = (c .before .before .before .before .before .before .before .before .before) in
     let k = ok here in
-    rw (c .before .before .before .before .before .before .before .before .load .ensures) (bounds (begun here .pre) (k .setting), omega (arith, k .long .threads, c .before .before .before .before .turn .kept .1 .1 .0), k .bank-in, k .thread-in)
+    let kept = c .before .before .before .before .turn .kept .1 .1 .0 in
+    rw (c .before .before .before .before .before .before .before .before .load .ensures) (bounds (begun here .pre) (k .setting), omega (arith, k .long .threads, kept), k .bank-in, k .thread-in)
 
 store-clock-requires : tie.Need-store-clock-requires
 store-clock-requires c κs =

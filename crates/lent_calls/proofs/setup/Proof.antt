@@ -1,11 +1,8 @@
 -- `setup` is refused as the rules say, or clears all but the filters.
-use mathlib.Core.Path.{_≡_, ap, _∙_}
 use native.Mathlib.Omega.{arith}
 use Rattle.rules.specs.declared.Setting.{Setting}
 use Rattle.rules.specs.Setting.{settingOf}
-use Rattle.rules.specs.State.{countersUsed}
 use Rattle.rules.specs.Tested.{SetUp}
-use Rattle.interface.specs.Left.{leaves}
 use Rattle.filterless.proofs.Requests.{bounds}
 use Rattle.lent_calls.proofs.Leaves.{blank, setup-refused, setup-ok, setup-room, setup-done}
 use borrow.Author.Needs.{needs}
