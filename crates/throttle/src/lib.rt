@@ -169,9 +169,8 @@ pub extern "C" fn throttle_wide_setup(
 ) -> u32
     ensures { λ r. ⌜ left r [] (now (head .exit)) (now (counters .exit)) (now (ticks .exit)) (now (rows .exit)) (now (threads .exit)) ≡ leaves (setup limits02 (settingOf (now (setting .entry))) (now (seeds .entry)) (found (now (head .entry)) (now (counters .entry)) (now (ticks .entry)) (now (rows .entry)) (now (threads .entry)))) [] (now (head .entry)) ⌝ }
 {
-    let new_limits = wide_limits();
     let cleared = lent_calls::setup(
-        new_limits,
+        wide_limits(),
         setting,
         seeds,
         head,
