@@ -6,9 +6,9 @@ use native.Mathlib.Omega.{arith}
 use native.Mathlib.Nat.{mul-le-mul}
 use Rattle.rules.specs.Setting.{profileOf}
 use Rattle.plan.specs.declared.Width.{Width}
-use Rattle.plan.specs.Plan.{Fits, widthOf}
+use Rattle.plan.specs.Plan.{ServedWidth, widthOf}
 
-pub fits : (w : Width) (wide : Bool) → w ≡ widthOf wide → (w ≡ widthOf wide) × Fits w
+pub fits : (w : Width) (wide : Bool) → w ≡ widthOf wide → (w ≡ widthOf wide) × ServedWidth w
 fits w true e = (e, rw e ((omega arith, omega arith), omega arith))
 fits w false e = (e, rw e ((omega arith, omega arith), omega arith))
 

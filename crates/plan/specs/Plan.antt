@@ -55,8 +55,8 @@ abbrev pub Served : Limits → Type 0
 Served m = (m .threshold ≤ 2 ^ 20) × (m .history ≤ 32768)
 
 -- the same of a width, with the bytes of its counters
-abbrev pub Fits : Width → Type 0
-Fits w = Served (w .limits) × (w .counter ≤ 4)
+abbrev pub ServedWidth : Width → Type 0
+ServedWidth w = Served (w .limits) × (w .counter ≤ 4)
 
 -- ---- what an exported call leaves
 

@@ -10,7 +10,7 @@ ghost use Rattle.rules.specs.Setting.{settingOf, rowBound};
 ghost use Rattle.rules.specs.Policy.{limits01, limits02};
 ghost use Rattle.plan_delays.specs.Delays.{withDelay, withThreshold, delayRefusal, AcceptedDelay};
 ghost use Rattle.plan_delays.specs.Answer.{smallestDelay, leastDelay, greatestDelay, delaysWithin, delaysAbove, delaysOf};
-ghost use Rattle.plan.specs.Plan.{hasDelay, Last, Served, Fits, widthOf, costOf, left, leaves};
+ghost use Rattle.plan.specs.Plan.{hasDelay, Last, Served, ServedWidth, widthOf, costOf, left, leaves};
 
 // A width of the filter counters.
 pub struct Width {
@@ -32,7 +32,7 @@ pub struct Cost {
 
 // 32-bit counters, or 16-bit ones.
 pub fn width_of(wide: bool) -> Width
-    ensures { λ r. ⌜ (r ≡ widthOf wide) × Fits r ⌝ }
+    ensures { λ r. ⌜ (r ≡ widthOf wide) × ServedWidth r ⌝ }
 {
     if wide {
         return Width {
@@ -208,7 +208,7 @@ fn bytes(counter: u64, banks: u64, threads: u64, history: u64) -> u64
 
 // What the setting costs with a delay that is accepted at this width: H, B, and the bytes of the four buffers.
 pub fn costs(width: Width, s: rules::Setting, td: u64) -> Cost
-    requires { ⌜ Fits width × AcceptedDelay (width .limits) s td ⌝ }
+    requires { ⌜ ServedWidth width × AcceptedDelay (width .limits) s td ⌝ }
     ensures { λ r. ⌜ r ≡ costOf (width .counter) (withDelay s td) ⌝ }
 {
     let history = setting::history_length(with_delay(s, td)) as u64;

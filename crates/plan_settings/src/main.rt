@@ -7,7 +7,7 @@ use plan_arguments::argument;
 use plan_arguments::faults;
 use plan_arguments::read_options;
 ghost use Prim.Native.Nat.{_≤_};
-ghost use Rattle.plan.specs.Plan.{Fits};
+ghost use Rattle.plan.specs.Plan.{ServedWidth};
 
 // Number i of the five, which is reported where it is none; options is the count of words before the first.
 fn field(options: usize, i: usize) -> Number
@@ -32,7 +32,7 @@ fn threshold(options: usize, is_one: bool) -> Number
 
 // The setting is printed for the most banks of its profile and 8 threads. Its delay and Q play no part.
 fn answer(w: u64, trc: u64, tfaw: u64, n: u64, l: u64, width: Width, mark: u64, is_one: bool)
-    requires { ⌜ Fits width ⌝ }
+    requires { ⌜ ServedWidth width ⌝ }
 {
     let card = setting::profile(mark);
     let s = rules::Setting {
@@ -59,7 +59,7 @@ fn answer(w: u64, trc: u64, tfaw: u64, n: u64, l: u64, width: Width, mark: u64, 
 
 // The table at this width, of the profile with this mark, from the words behind the options.
 fn plan(options: usize, width: Width, mark: u64, is_one: bool)
-    requires { ⌜ (options ≤ 2) × Fits width ⌝ }
+    requires { ⌜ (options ≤ 2) × ServedWidth width ⌝ }
 {
     let w = field(options, 1);
     let trc = field(options, 2);
@@ -82,7 +82,7 @@ fn plan(options: usize, width: Width, mark: u64, is_one: bool)
 
 // The count of the arguments is tested; options is that of the words before the first number.
 fn start(options: usize, width: Width, mark: u64)
-    requires { ⌜ (options ≤ 2) × Fits width ⌝ }
+    requires { ⌜ (options ≤ 2) × ServedWidth width ⌝ }
 {
     let count = os::arg_count();
     if count < 5 + options || count > 6 + options {

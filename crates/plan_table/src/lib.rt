@@ -2,7 +2,7 @@
 // what the proved functions of the crate `plan` answer, at a width of the counters.
 use plan::Width;
 ghost use Prim.Native.Nat.{_^_, _≤_};
-ghost use Rattle.plan.specs.Plan.{Served, Fits};
+ghost use Rattle.plan.specs.Plan.{Served, ServedWidth};
 use crate::text::print;
 use crate::text::print_cell;
 use crate::text::print_nanoseconds;
@@ -69,7 +69,7 @@ fn print_reason(refusal: u32, limits: rules::Limits, mark: u64) {
 
 // The line of the setting's threshold.
 fn print_line(width: Width, s: rules::Setting)
-    requires { ⌜ Fits width ⌝ }
+    requires { ⌜ ServedWidth width ⌝ }
 {
     print_cell(s.n);
     let p = plan::delays(width.limits, s);
@@ -92,7 +92,7 @@ fn print_line(width: Width, s: rules::Setting)
 }
 
 fn print_threshold(width: Width, s: rules::Setting, n: u64)
-    requires { ⌜ Fits width ⌝ }
+    requires { ⌜ ServedWidth width ⌝ }
 {
     print_line(width, plan::with_threshold(s, n));
 }
@@ -108,7 +108,7 @@ fn print_trade() {
 
 // The one threshold that is given.
 pub fn print_one(width: Width, s: rules::Setting)
-    requires { ⌜ Fits width ⌝ }
+    requires { ⌜ ServedWidth width ⌝ }
 {
     print_head(width, s);
     print_line(width, s);
@@ -117,7 +117,7 @@ pub fn print_one(width: Width, s: rules::Setting)
 
 // The powers of two below the last threshold that has a delay.
 fn print_powers(width: Width, s: rules::Setting, last: u64)
-    requires { ⌜ Fits width × (last ≤ 2 ^ 20) ⌝ }
+    requires { ⌜ ServedWidth width × (last ≤ 2 ^ 20) ⌝ }
 {
     let mut n: u64 = 1;
     while n < last {
@@ -136,7 +136,7 @@ fn last_threshold(limits: rules::Limits, s: rules::Setting) -> u64
 
 // The powers of two, the last threshold that has a delay, and the one after it, which has none.
 pub fn print_table(width: Width, s: rules::Setting)
-    requires { ⌜ Fits width ⌝ }
+    requires { ⌜ ServedWidth width ⌝ }
 {
     print_head(width, s);
     let limits = width.limits;
