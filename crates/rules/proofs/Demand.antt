@@ -48,7 +48,7 @@ module _ (m : Limits) (s : Setting) (seeds : List ℕ) (before : State) (e : set
       subst (λ l. timesActivated bank row start x l ≤ spanBound s x) (run .makes) most
 
   -- at most B ..
-  pub bound-after : (bank row start : ℕ) → timesActivated bank row start (s .w) os ≤ rowBound s
+  bound-after : (bank row start : ℕ) → timesActivated bank row start (s .w) os ≤ rowBound s
   bound-after bank row start =
       let ok = set-up m s seeds before e .setting in
       omega (arith, spans-after bank row start (s .w) (omega (arith, ok .ranges .w-low)), window-bound m s seeds ok)

@@ -28,7 +28,7 @@ use Rattle.rules.specs.Decision.{quotaRule, bankRule, rankRule, activeEs
 use Rattle.rules.specs.Tested.{Sound, Taken}
 use Rattle.rules.specs.Calls.{Call, request, done, index, answered, callRefusal, callTick, callBank, callThread, refusalOf, unlessRefused, afterDecision, requested, reported, indexShown, performed, step, replies, after, Activation, activationOf, activations}
 use Rattle.rules.specs.Claims.{TurnsAdd, WaitIsLater, OpenedAtWait, NeverWaitRow}
-use Rattle.rules.proofs.Tests.{and-l, and-r, holds, is-true}
+use Rattle.rules.proofs.Tests.{and-l, and-r, holds, is-true, or-false, or-true}
 use Rattle.rules.proofs.Clearing.{clear-clear}
 use Rattle.rules.proofs.Clock.{clears-none, clears-one, clears-both, counters-none}
 use Rattle.rules.proofs.Accept.{accepted, epoch-long, orElse-none, taken, call-taken}
@@ -41,14 +41,6 @@ use Rattle.rules.proofs.Threshold.{below-threshold}
 use Rattle.rules.proofs.Wait.{wait-is-least}
 
 -- ---- two steps of the clock
-
-or-false : (a : Bool) → (a || false) ≡ a
-or-false true = refl
-or-false false = refl
-
-or-true : (a : Bool) → (a || true) ≡ true
-or-true true = refl
-or-true false = refl
 
 -- of two epochs that follow one another each clears another filter
 pub clears-add : (a b c f : ℕ) → a ≤ b → b ≤ c → f < 2 → (clears b c f || clears a b f) ≡ clears a c f
