@@ -15,27 +15,26 @@ use Rattle.rules.specs.Setting.{historyLength, settingRefusal}
 use Rattle.rules.specs.State.{State, countersUsed, threadsUsed, headOf, tooShort}
 use Rattle.rules.specs.History.{memoryOk}
 use Rattle.rules.specs.Policy.{limits01}
-use Rattle.rules.proofs.Cells.{map-same, store-map, length-mapCells}
+use Rattle.rules.proofs.Cells.{map-same, store-map}
 use Rattle.rules.proofs.Accept.{number-none}
 use Rattle.memory.specs.Memory.{memoryTest}
 use Rattle.lengths.specs.Lengths.{shortTest, setupTest}
 use Rattle.refusal.specs.Tests.{lentTest}
 use Rattle.refusal.proofs.Refusals.{refuse-parts}
-use Rattle.widths.specs.ChangeOver.{changeOverRefusal, takenOver, changedOver, changeOver}
-use Rattle.widths.proofs.ChangeOver.{Taken, taken}
+use Rattle.widths.specs.ChangeOver.{changeOverRefusal, copiedCell, copied, changedOver, changeOver}
+use Rattle.widths.proofs.ChangeOver.{or-comm, Taken, taken}
 use Rattle.interface.specs.Left.{found}
-use Rattle.change_over.specs.Copied.{copied}
 
 -- ---- the copy
 
 pub copied-none : (old new : List ℕ) → new ≡ copied 0 old new
 unfolding copied
-copied-none old new = sym (map-same (λ i c. cond (ltb i 0) (getD old i 0) c) (λ i c. rw (le-ltb i 0 (omega arith))) new)
+copied-none old new = sym (map-same (copiedCell 0 old) (λ i c. rw (le-ltb i 0 (omega arith))) new)
 
 pub copied-more : (i : ℕ) (old new : List ℕ) (v : ℕ) → i < length new → v ≡ getD old i 0 → set (copied i old new) i v ≡ copied (i + 1) old new
 unfolding copied
 copied-more i old new v h e =
-    store-map (λ j c. cond (ltb j i) (getD old j 0) c) (λ j c. cond (ltb j (i + 1)) (getD old j 0) c) new i v h
+    store-map (copiedCell i old) (copiedCell (i + 1) old) new i v h
     (rw (lt-ltb i (i + 1) (omega arith)) e) (λ j c p. ap (λ q. cond q (getD old j 0) c) (same j p (decLt j i)))
   where
     same : (j : ℕ) → j ≢ i → Dec (j < i) → ltb j i ≡ ltb j (i + 1)
@@ -43,10 +42,6 @@ copied-more i old new v h e =
     same j p (no k) =
         let l : i + 1 ≤ j = omega arith in
         le-ltb j i (omega arith) ∙ sym (le-ltb j (i + 1) l)
-
-pub copied-long : (used : ℕ) (old new : List ℕ) → length (copied used old new) ≡ length new
-unfolding copied
-copied-long used old new = length-mapCells (λ i c. cond (ltb i used) (getD old i 0) c) new
 
 -- ---- the refusals
 
@@ -62,16 +57,8 @@ shorter-short a b u = go (decLt a u) (decLt b u)
 -- the second of five tests may stand last
 second-last : (x y p q r : Bool) → (((x || y) || p) || q) || r ≡ (((x || p) || q) || r) || y
 second-last true y p q r = refl
-second-last false true p q r = sym (last (p || q || r))
-  where
-    last : (b : Bool) → (b || true) ≡ true
-    last true = refl
-    last false = refl
-second-last false false p q r = sym (last (p || q || r))
-  where
-    last : (b : Bool) → (b || false) ≡ b
-    last true = refl
-    last false = refl
+second-last false true p q r = or-comm true (p || q || r)
+second-last false false p q r = or-comm false (p || q || r)
 
 module _ (s : Setting) (seeds words old new ticks rows threads : List ℕ) where
   -- the state with the old counters
@@ -102,5 +89,5 @@ module _ (s : Setting) (seeds words old new ticks rows threads : List ℕ) where
     left-refused h = rw (ne-eqb (refusalNumber (changeOverRefusal s seeds saved new)) 0 (λ z. h (code-is ∙ z))) (ap (λ n. changedOver n new) code-is)
 
     pub left-taken : code ≡ 0 → changedOver 0 (copied (countersUsed s) old new) ≡ changeOver s seeds saved new
-    unfolding changeOver takenOver copied
+    unfolding changeOver
     left-taken z = rw (eq-eqb (refusalNumber (changeOverRefusal s seeds saved new)) 0 (sym code-is ∙ z)) refl

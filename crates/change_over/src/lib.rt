@@ -8,9 +8,8 @@ ghost use Prim.Native.Nat.{_≤_, min};
 ghost use lib.ListN.{length};
 ghost use Rattle.rules.specs.Setting.{settingOf};
 ghost use Rattle.rules.specs.Policy.{limits01};
-ghost use Rattle.widths.specs.ChangeOver.{changedOver, changeOver};
+ghost use Rattle.widths.specs.ChangeOver.{copied, changedOver, changeOver};
 ghost use Rattle.interface.specs.Left.{found};
-ghost use Rattle.change_over.specs.Copied.{copied};
 
 // The first counters become the old ones, as numbers.
 fn take_over(old: &[u16], counters: &mut [u32], used: usize)

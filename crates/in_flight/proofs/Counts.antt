@@ -1,4 +1,4 @@
--- The total gains the thread's openings and loses its dones, call by call and so over every list.
+-- The total gains the thread's openings and loses its dones, call by call and so over every list, one with a change-over too.
 use mathlib.Core.Path.{_≡_, refl, sym, _∙_}
 use mathlib.Core.List.{List, [], _∷_}
 use mathlib.Core.Bool.{Bool, true, false}
@@ -18,7 +18,7 @@ use Rattle.rules.specs.Clock.{turned}
 use Rattle.rules.specs.Hash.{places}
 use Rattle.rules.specs.Filter.{blacklisted}
 use Rattle.rules.specs.Quota.{inFlightHere, inFlightTotal}
-use Rattle.rules.specs.Policy.{Policy}
+use Rattle.rules.specs.Policy.{Policy, narrow, wide}
 use Rattle.rules.specs.Decision.{activeEstimate, decide, activated, openingsLeft, answerOf}
 use Rattle.rules.specs.Tested.{Taken}
 use Rattle.rules.specs.Calls.{Call, request, done, index, refused, answered, Outcome, outcome, afterDecision, requested, reported, indexShown, refusalOf, performed, step, replies, after, activationOf, activations}
@@ -28,7 +28,8 @@ use Rattle.rules.proofs.Counting.{count-append}
 use Rattle.rules.proofs.Memory.{turned-long}
 use Rattle.rules.proofs.Step.{by-refusal}
 use Rattle.rules.proofs.Sums.{total-none}
-use Rattle.in_flight.specs.Claims.{isDoneOf, donesOf, openingsOf, TotalMoves, TotalCounts}
+use Rattle.widths.specs.ChangeOver.{changedState}
+use Rattle.in_flight.specs.Claims.{isDoneOf, donesOf, openingsOf, TotalMoves, TotalCounts, TotalCountsOver}
 use Rattle.in_flight.proofs.Cells.{turned-here, turned-total, other-total, more-total, less-total, activated-total}
 
 -- one more or none, as a sum
@@ -159,3 +160,15 @@ fresh-none s before bank thread h =
 pub total-counts : (p : Policy) → TotalCounts p
 total-counts p s seeds before up cs bank thread h =
     omega (arith, run-moved p s seeds bank thread h cs (fresh s before), fresh-none s before bank thread h)
+
+-- the change-over keeps the thread counters, so the total goes on from what the old-width calls left
+pub total-counts-over : TotalCountsOver
+total-counts-over s seeds before up earlier new e later bank thread h =
+    let end = after narrow s seeds (fresh s before) earlier in
+    let taken = changedState s seeds end new in
+    omega (
+      arith,
+      total-counts narrow s seeds before up earlier bank thread h,
+      run-moved wide s seeds bank thread h later taken,
+      count-append (λ x. eqb (x .thread) thread) (activations earlier (replies narrow s seeds (fresh s before) earlier)) (activations later (replies wide s seeds taken later)),
+    )

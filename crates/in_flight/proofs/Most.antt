@@ -17,7 +17,7 @@ use Rattle.rules.specs.State.{State, fresh}
 use Rattle.rules.specs.Clock.{activeFilter, turned}
 use Rattle.rules.specs.Hash.{places}
 use Rattle.rules.specs.Quota.{quotaEven, inFlightTotal, indexCounter}
-use Rattle.rules.specs.Policy.{Policy, inForce}
+use Rattle.rules.specs.Policy.{Policy, limits01, limits02, inForce, narrow}
 use Rattle.rules.specs.Decision.{decide, activated}
 use Rattle.rules.specs.Tested.{Taken}
 use Rattle.rules.specs.Calls.{Call, request, done, index, afterDecision, requested, reported, indexShown, refusalOf, performed, step, after}
@@ -25,7 +25,8 @@ use Rattle.rules.proofs.Accept.{scale-pos, call-taken}
 use Rattle.rules.proofs.Memory.{turned-long}
 use Rattle.rules.proofs.Regular.{quota-most}
 use Rattle.rules.proofs.Step.{opened-rules, by-refusal}
-use Rattle.in_flight.specs.Claims.{AtMostQ}
+use Rattle.widths.specs.ChangeOver.{changedState}
+use Rattle.in_flight.specs.Claims.{AtMostQ, AtMostQOver}
 use Rattle.in_flight.proofs.Cells.{turned-total}
 use Rattle.in_flight.proofs.Counts.{activated-moved, performed-moved, fresh-none}
 
@@ -91,3 +92,8 @@ module _ (m : Limits) (s : Setting) (seeds : List ℕ) (bank thread : ℕ) (h : 
 pub at-most-q : (m : Limits) → AtMostQ (inForce m)
 at-most-q m s seeds before up cs bank thread h =
     run-most m s seeds bank thread h cs (fresh s before) (omega (arith, fresh-none s before bank thread h))
+
+pub at-most-q-over : AtMostQOver
+at-most-q-over s seeds before up earlier new e later bank thread h =
+    let taken = changedState s seeds (after narrow s seeds (fresh s before) earlier) new in
+    run-most limits02 s seeds bank thread h later taken (at-most-q limits01 s seeds before up earlier bank thread h)

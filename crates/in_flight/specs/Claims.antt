@@ -11,8 +11,10 @@ use Rattle.rules.specs.Cells.{more, count}
 use Rattle.rules.specs.Answers.{none, noneInFlight}
 use Rattle.rules.specs.State.{State, fresh}
 use Rattle.rules.specs.Quota.{inFlightHere, inFlightTotal}
-use Rattle.rules.specs.Policy.{Policy, inForce}
+use Rattle.rules.specs.Policy.{Policy, limits01, inForce, narrow, wide}
 use Rattle.rules.specs.Calls.{Call, request, done, index, Reply, refused, answered, finished, shown, setupRefusal, callRefusal, step, replies, after, Activation, activations}
+use Rattle.widths.specs.ChangeOver.{changeOverRefusal, changedState}
+use Rattle.widths.specs.Claims.{activationsOver}
 
 -- ---- read off the replies
 
@@ -61,6 +63,30 @@ AtMostQ p =
     → (cs : List Call) (bank thread : ℕ) → thread < s .threads
     → inFlightTotal s (after p s seeds (fresh s before) cs .threads) bank thread ≤ s .q
 
+-- ---- the total in a list with a change-over
+
+-- "in a list as in demand 3 it equals the thread's openings less its dones, refused ones apart", also where the list has a change-over, which "only
+-- old-width calls precede" (document 02, a): old-width calls after an old-width set-up that is not refused, a change-over that is not refused, and
+-- new-width calls. Openings and dones are those before and after it together.
+abbrev pub TotalCountsOver : Type 0
+TotalCountsOver =
+    (s : Setting) (seeds : List ℕ) (before : State) → setupRefusal limits01 s seeds before ≡ none
+    → (earlier : List Call) (new : List ℕ) → changeOverRefusal s seeds (after narrow s seeds (fresh s before) earlier) new ≡ none
+    → (later : List Call) (bank thread : ℕ) → thread < s .threads
+    → let taken = changedState s seeds (after narrow s seeds (fresh s before) earlier) new in
+    inFlightTotal s (after wide s seeds taken later .threads) bank thread
+    + donesOf thread earlier (replies narrow s seeds (fresh s before) earlier) + donesOf thread later (replies wide s seeds taken later)
+    ≡ openingsOf thread (activationsOver s seeds (fresh s before) earlier new later)
+
+-- No thread of the setting has more than Q in flight after such a list, whichever banks they are in.
+abbrev pub AtMostQOver : Type 0
+AtMostQOver =
+    (s : Setting) (seeds : List ℕ) (before : State) → setupRefusal limits01 s seeds before ≡ none
+    → (earlier : List Call) (new : List ℕ) → changeOverRefusal s seeds (after narrow s seeds (fresh s before) earlier) new ≡ none
+    → (later : List Call) (bank thread : ℕ) → thread < s .threads
+    → let taken = changedState s seeds (after narrow s seeds (fresh s before) earlier) new in
+    inFlightTotal s (after wide s seeds taken later .threads) bank thread ≤ s .q
+
 -- ---- a done
 
 -- "Done for a bank lowers the total and is refused with 10 exactly if that bank has none of the thread's requests.": of a done on any state that passes
@@ -83,4 +109,6 @@ pub record Theorems : Type 0 where
   pub totalMoves : (p : Policy) → TotalMoves p
   pub totalCounts : (p : Policy) → TotalCounts p
   pub atMostQ : (m : Limits) → AtMostQ (inForce m)
+  pub totalCountsOver : TotalCountsOver
+  pub atMostQOver : AtMostQOver
   pub doneByBank : (p : Policy) → DoneByBank p

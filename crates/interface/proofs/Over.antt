@@ -1,6 +1,7 @@
--- The change-over as a C program sees it: the calls after it leave what the calls before it would have left, and lists with it are moves of the rules' state.
+-- The change-over as a C program sees it: the calls after it leave what the calls before it would have left, set-up too, and lists with it are moves of the
+-- rules' state.
 use mathlib.Core.Path.{_≡_, refl, sym, ap, ap₂, _∙_, subst}
-use mathlib.Core.List.{List, [], _∷_, map}
+use mathlib.Core.List.{List, [], _∷_, _++_, map}
 use Prim.Native.Nat.{ℕ, _≤_, _<_}
 use native.Mathlib.Omega.{arith}
 use lib.ListN.{length, getD, take}
@@ -9,18 +10,18 @@ use Rattle.rules.specs.declared.Setting.{Setting}
 use Rattle.rules.specs.Answers.{none}
 use Rattle.rules.specs.Setting.{settingOf, settingRefusal}
 use Rattle.rules.specs.State.{countersUsed, fresh}
-use Rattle.rules.specs.Policy.{Policy, limits01, narrow, wide}
-use Rattle.rules.specs.Calls.{Outcome, returnCode, outWords, step, Activation}
+use Rattle.rules.specs.Policy.{Policy, limits01, limits02, narrow, wide}
+use Rattle.rules.specs.Calls.{Outcome, returnCode, outWords, setup, step, Activation}
 use Rattle.rules.specs.Moves.{Owned, Moves}
 use Rattle.rules.proofs.Accept.{number-none}
 use Rattle.rules.proofs.Step.{no-moves, and-then, owned, step-moves}
 use Rattle.rules.proofs.Demand.{spans-after, demand3-after}
 use Rattle.widths.specs.ChangeOver.{changeOverRefusal}
 use Rattle.widths.proofs.ChangeOver.{taken, leaves as over-leaves}
-use Rattle.widths.proofs.Answers.{SameButRest, over-same, step-same}
+use Rattle.widths.proofs.Answers.{SameButRest, over-same, step-same, setup-same}
 use Rattle.widths.proofs.Lists.{over-moves}
 use Rattle.interface.specs.Left.{left, wordsLeft, leaves}
-use Rattle.interface.specs.Claims.{Lent, Asked, callOf, outOf, foundIn, leftBySetup, leftBy, lentAfter, leftByAll, openingOf, leftByOver, lentOver, usedOf, AnswersAsBeforeForC, Width, rulesOf, ListFrom, ends, call, over, overRefused, againRefused, openingsFrom, SpansOverForC, Demand3OverForC}
+use Rattle.interface.specs.Claims.{Lent, Asked, callOf, outOf, foundIn, leftBySetup, leftBy, lentAfter, leftByAll, lentAfterAll, openingOf, openings, leftByOver, lentOver, usedOf, AnswersAsBeforeForC, SetUpAsBeforeForC, Width, bits16, bits32, rulesOf, ListFrom, ends, call, over, overRefused, againRefused, openingsFrom, listOf, OneWidthForC, SpansOverForC, Demand3OverForC}
 use Rattle.interface.proofs.Program.{step-seen, setup-free, setup-found}
 
 -- a change-over that returns 0 is not refused
@@ -44,29 +45,72 @@ leaves-same s o o′ out words words′ e w t =
     let used = used-same (countersUsed s) (o .state .counters) (o′ .state .counters) (u .long .counters) (u .longToo .counters) (u .counters) in
     λ k. left (returnCode (e k)) (outWords (e k) out) (wordsLeft (e k) (w k) (u .head k)) (used k) (t .ticks k) (t .rows k) (t .threads k)
 
+-- memories with equal head words, and states that differ in unused counters only
+record SameMemory (s : Setting) (a b : Lent) : Type 0 where
+  words : b .head ≡ a .head
+  states : SameButRest s (foundIn a) (foundIn b)
+
 module _ (setting seeds : List ℕ) (ok : settingRefusal limits01 (settingOf setting) seeds ≡ none) where
   abbrev s : Setting
   s = settingOf setting
 
-  lefts-same : (cs : List Asked) (a b : Lent) → b .head ≡ a .head → SameButRest s (foundIn a) (foundIn b)
-      → map (usedOf s) (leftByAll wide setting seeds b cs) ≡ map (usedOf s) (leftByAll narrow setting seeds a cs)
-  lefts-same [] a b w t = refl
-  lefts-same (c ∷ cs) a b w t =
-      let next = step-same s seeds ok (foundIn a) (foundIn b) t (callOf c) in
-      let same = leaves-same s (step narrow s seeds (foundIn a) (callOf c)) (step wide s seeds (foundIn b) (callOf c)) (outOf c) (a .head) (b .head) (next .0) w (next .1) in
+  left-same : (a b : Lent) → SameMemory s a b → (c : Asked)
+      → let x = leftBy narrow setting seeds a c in
+      let y = leftBy wide setting seeds b c in
+      (usedOf s y ≡ usedOf s x) × SameMemory s (lentAfter x) (lentAfter y)
+  left-same a b t c =
+      let next = step-same s seeds ok (foundIn a) (foundIn b) (t .states) (callOf c) in
+      let same = leaves-same s (step narrow s seeds (foundIn a) (callOf c)) (step wide s seeds (foundIn b) (callOf c)) (outOf c) (a .head) (b .head) (next .0) (t .words) (next .1) in
       let ka = step-seen narrow setting seeds a c .state in
       let kb = step-seen wide setting seeds b c .state in
-      ap₂ (λ l ls. l ∷ ls) same
-      (lefts-same cs (lentAfter (leftBy narrow setting seeds a c)) (lentAfter (leftBy wide setting seeds b c)) (ap (λ l. l .head) same) (rw (ka, kb) (next .1)))
+      (same, record { words = ap (λ l. l .head) same; states = rw (ka, kb) (next .1) })
+
+  run-same : (cs : List Asked) (a b : Lent) → SameMemory s a b
+      → (map (usedOf s) (leftByAll wide setting seeds b cs) ≡ map (usedOf s) (leftByAll narrow setting seeds a cs))
+      × SameMemory s (lentAfterAll narrow setting seeds a cs) (lentAfterAll wide setting seeds b cs)
+  run-same [] a b t = (refl, t)
+  run-same (c ∷ cs) a b t =
+      let x = left-same a b t c in
+      let rest = run-same cs (lentAfter (leftBy narrow setting seeds a c)) (lentAfter (leftBy wide setting seeds b c)) (x .1) in
+      (ap₂ (λ l ls. l ∷ ls) (x .0) (rest .0), rest .1)
+
+  setup-left : (a b : Lent) → SameMemory s a b → usedOf s (leftBySetup wide setting seeds b) ≡ usedOf s (leftBySetup narrow setting seeds a)
+  setup-left a b t =
+      let up = setup-same s seeds ok (foundIn a) (foundIn b) (t .states) in
+      leaves-same s (setup limits01 s seeds (foundIn a)) (setup limits02 s seeds (foundIn b)) [] (a .head) (b .head) (up .1 ∙ sym (up .0)) (t .words) (up .2)
+
+-- what holds of the setting, and of the two memories after the calls, where the change-over returns 0
+module _ (setting seeds : List ℕ) (m : Lent) (counters : List ℕ) (e : leftByOver setting seeds m counters .code ≡ 0) where
+  accepted : settingRefusal limits01 (settingOf setting) seeds ≡ none
+  accepted = taken (settingOf setting) seeds (foundIn m) counters (over-free setting seeds m counters e) .setting
+
+  over-run : (cs : List Asked)
+      → let new = lentOver m (leftByOver setting seeds m counters) in
+      (map (usedOf (settingOf setting)) (leftByAll wide setting seeds new cs) ≡ map (usedOf (settingOf setting)) (leftByAll narrow setting seeds m cs))
+      × SameMemory (settingOf setting) (lentAfterAll narrow setting seeds m cs) (lentAfterAll wide setting seeds new cs)
+  over-run cs =
+      run-same setting seeds accepted cs m (lentOver m (leftByOver setting seeds m counters))
+      (record { words = refl; states = over-same (settingOf setting) seeds (foundIn m) counters (over-free setting seeds m counters e) })
 
 pub answers-as-before-for-c : AnswersAsBeforeForC
-answers-as-before-for-c setting seeds m counters e cs =
-    let free = over-free setting seeds m counters e in
-    let s = settingOf setting in
-    lefts-same setting seeds (taken s seeds (foundIn m) counters free .setting) cs m (lentOver m (leftByOver setting seeds m counters)) refl
-    (over-same s seeds (foundIn m) counters free)
+answers-as-before-for-c setting seeds m counters e cs = over-run setting seeds m counters e cs .0
+
+pub set-up-as-before-for-c : SetUpAsBeforeForC
+set-up-as-before-for-c setting seeds m counters e cs =
+    setup-left setting seeds (accepted setting seeds m counters e) _ _ (over-run setting seeds m counters e cs .1)
 
 -- ---- lists with a change-over
+
+-- those of one width
+one-width : (setting seeds : List ℕ) (w : Width) (m : Lent) (cs : List Asked)
+    → openingsFrom setting seeds (listOf setting seeds w m cs) ≡ openings cs (leftByAll (rulesOf w) setting seeds m cs)
+one-width setting seeds w m [] = refl
+one-width setting seeds w m (c ∷ cs) =
+    let l = leftBy (rulesOf w) setting seeds m c in
+    ap (λ os. openingOf c l ++ os) (one-width setting seeds w (lentAfter l) cs)
+
+pub one-width-for-c : (setting seeds : List ℕ) (m : Lent) (cs : List Asked) → OneWidthForC setting seeds m cs
+one-width-for-c setting seeds m cs = record { old = one-width setting seeds bits16 m cs; new = one-width setting seeds bits32 m cs }
 
 module _ (setting seeds : List ℕ) where
   -- from the state in the memory m, by moves that make these activations

@@ -59,6 +59,11 @@ abbrev pub leftByAll : Policy → List ℕ → List ℕ → Lent → List Asked 
 leftByAll p setting seeds m [] = []
 leftByAll p setting seeds m (c ∷ cs) = leftBy p setting seeds m c ∷ leftByAll p setting seeds (lentAfter (leftBy p setting seeds m c)) cs
 
+-- the memory that a list of calls leaves
+abbrev pub lentAfterAll : Policy → List ℕ → List ℕ → Lent → List Asked → Lent
+lentAfterAll p setting seeds m [] = m
+lentAfterAll p setting seeds m (c ∷ cs) = lentAfterAll p setting seeds (lentAfter (leftBy p setting seeds m c)) cs
+
 -- an opening, as the program sees it: a request that returned 0 and left 0 in out[0]
 abbrev pub openingOf : Asked → Left → List Activation
 openingOf (asksRequest t b th r out) l = cond (eqb (l .code) 0 && eqb (getD (l .out) 0 0) 0) (record { tick = t; bank = b; thread = th; row = r } ∷ []) []
@@ -103,13 +108,21 @@ usedOf s l = left (l .code) (l .out) (l .head) (take (countersUsed s) (l .counte
 
 -- "after the change-over it answers every later call under the change-over's setting as it would have before": of any memory and any new counters for
 -- which it returns 0, and every list of calls. Each new-width call leaves the return code, the out words, the head's words, the used counters, and
--- the history and thread counters, whole buffers, that the old-width call would have left.
+-- the history and thread counters, whole buffers, that the old-width call would have left ..
 abbrev pub AnswersAsBeforeForC : Type 0
 AnswersAsBeforeForC =
-    (setting seeds : List ℕ) (m : Lent) (counters : List ℕ) → leftByOver setting seeds m counters .code ≡ 0
-    → (cs : List Asked)
+    (setting seeds : List ℕ) (m : Lent) (counters : List ℕ) → leftByOver setting seeds m counters .code ≡ 0 → (cs : List Asked)
     → map (usedOf (settingOf setting)) (leftByAll wide setting seeds (lentOver m (leftByOver setting seeds m counters)) cs)
     ≡ map (usedOf (settingOf setting)) (leftByAll narrow setting seeds m cs)
+
+-- .. and so does new-width set-up, which is a call too, after every such list.
+abbrev pub SetUpAsBeforeForC : Type 0
+SetUpAsBeforeForC =
+    (setting seeds : List ℕ) (m : Lent) (counters : List ℕ) → leftByOver setting seeds m counters .code ≡ 0
+    → (cs : List Asked)
+    → let old = lentAfterAll narrow setting seeds m cs in
+    let new = lentAfterAll wide setting seeds (lentOver m (leftByOver setting seeds m counters)) cs in
+    usedOf (settingOf setting) (leftBySetup wide setting seeds new) ≡ usedOf (settingOf setting) (leftBySetup narrow setting seeds old)
 
 -- ---- lists with a change-over
 
@@ -145,6 +158,16 @@ openingsFrom setting seeds (over m counters e cs) = openingsFrom setting seeds c
 openingsFrom setting seeds (overRefused w m given counters e cs) = openingsFrom setting seeds cs
 openingsFrom setting seeds (againRefused m given e cs) = openingsFrom setting seeds cs
 
+-- the list that has these calls, of one width, and no change-over
+abbrev pub listOf : (setting seeds : List ℕ) (w : Width) (m : Lent) → List Asked → ListFrom setting seeds w m
+listOf setting seeds w m [] = ends w m
+listOf setting seeds w m (c ∷ cs) = call w m c (listOf setting seeds w (lentAfter (leftBy (rulesOf w) setting seeds m c)) cs)
+
+-- Every list of calls of one width is such a list: it has the openings that `SpansForC` and `Demand3ForC` speak of, under the rules of that width.
+pub record OneWidthForC (setting seeds : List ℕ) (m : Lent) (cs : List Asked) : Type 0 where
+  pub old : openingsFrom setting seeds (listOf setting seeds bits16 m cs) ≡ openings cs (leftByAll narrow setting seeds m cs)
+  pub new : openingsFrom setting seeds (listOf setting seeds bits32 m cs) ≡ openings cs (leftByAll wide setting seeds m cs)
+
 -- From any words and buffers that the set-up of a width accepts, for every such list: no row of any bank is opened more than `spanBound` times in x
 -- ticks, before and after the change-over together ..
 abbrev pub SpansOverForC : Type 0
@@ -167,5 +190,7 @@ pub record Theorems : Type 0 where
   pub spans : (p : Policy) → SpansForC p
   pub demand3 : (p : Policy) → Demand3ForC p
   pub answersAsBefore : AnswersAsBeforeForC
+  pub setUpAsBefore : SetUpAsBeforeForC
+  pub oneWidth : (setting seeds : List ℕ) (m : Lent) (cs : List Asked) → OneWidthForC setting seeds m cs
   pub spansOver : SpansOverForC
   pub demand3Over : Demand3OverForC

@@ -24,14 +24,16 @@ use Rattle.rules.proofs.Accept.{number-none, not-zero, orElse-none, refuse-none
 use Rattle.rules.proofs.Memory.{memory-ok}
 use Rattle.rules.proofs.Fits.{below-at}
 use Rattle.rules.proofs.Sound.{long-not-short, step-sound, fresh-sound}
-use Rattle.widths.specs.ChangeOver.{changeOverRefusal, takenCell, takenOver, ChangedOver, changedOver, changeOver}
+use Rattle.widths.specs.ChangeOver.{changeOverRefusal, copiedCell, copied, takenOver, ChangedOver, changedOver, changeOver}
 use Rattle.widths.specs.Claims.{Refuses, Leaves, FitsOver, TakenInList}
 
 -- ---- the refusals
 
-or-true : (a : Bool) → (a || true) ≡ true
-or-true true = refl
-or-true false = refl
+pub or-comm : (a b : Bool) → (a || b) ≡ (b || a)
+or-comm true true = refl
+or-comm true false = refl
+or-comm false true = refl
+or-comm false false = refl
 
 pub refuses : (s : Setting) (seeds : List ℕ) (old : State) (new : List ℕ) → Refuses s seeds old new
 unfolding changeOverRefusal
@@ -39,7 +41,7 @@ refuses s seeds old new =
     record {
       setting = λ h. first-refusal (λ r. r ≡ settingRefusal limits01 s seeds) (settingRefusal limits01 s seeds) _ (λ e. absurd (h e)) (λ k. refl);
       oldShort = λ e h. rw (e, is-true (tooShort s old) h);
-      newShort = λ e h. rw (e, lt-ltb (length new) (countersUsed s) h, or-true (tooShort s old));
+      newShort = λ e h. rw (e, lt-ltb (length new) (countersUsed s) h, or-comm (tooShort s old) true);
       memory = λ e l k h. rw (e, long-not-short s old l, le-ltb (length new) (countersUsed s) k, is-false (memoryOk s old) (not-T (memoryOk s old) h));
       taken = λ e l k h. rw (e, long-not-short s old l, le-ltb (length new) (countersUsed s) k, is-true (memoryOk s old) h);
     }
@@ -60,18 +62,18 @@ taken s seeds old new e =
 
 -- ---- what it leaves
 
-module _ (s : Setting) (old new : List ℕ) where
-  over-used : countersUsed s ≤ length new → (i : ℕ) → i < countersUsed s → getD (takenOver s old new) i 0 ≡ getD old i 0
-  unfolding takenOver
-  over-used k i h = getD-mapCells (takenCell s old) i new (omega arith) ∙ rw (lt-ltb i (countersUsed s) h)
+module _ (used : ℕ) (old new : List ℕ) where
+  copied-used : used ≤ length new → (i : ℕ) → i < used → getD (copied used old new) i 0 ≡ getD old i 0
+  unfolding copied
+  copied-used k i h = getD-mapCells (copiedCell used old) i new (omega arith) ∙ rw (lt-ltb i used h)
 
-  over-rest : SameFrom (countersUsed s) new (takenOver s old new)
-  unfolding takenOver
-  over-rest = (length-mapCells (takenCell s old) new, λ i h. getD-kept (takenCell s old) 0 i new (λ c. rw (le-ltb (0 + i) (countersUsed s) (omega arith))))
+  pub copied-rest : SameFrom used new (copied used old new)
+  unfolding copied
+  copied-rest = (length-mapCells (copiedCell used old) new, λ i h. getD-kept (copiedCell used old) 0 i new (λ c. rw (le-ltb (0 + i) used (omega arith))))
 
-  over-fits : (m : ℕ) → ((i : ℕ) → getD old i 0 < m) → All (λ c. c < m) new → All (λ c. c < m) (takenOver s old new)
-  unfolding takenOver
-  over-fits m h a = all-mapFrom (λ c. c < m) (takenCell s old) (λ i c k. pick (ltb i (countersUsed s)) i c k) 0 new a
+  copied-fits : (m : ℕ) → ((i : ℕ) → getD old i 0 < m) → All (λ c. c < m) new → All (λ c. c < m) (copied used old new)
+  unfolding copied
+  copied-fits m h a = all-mapFrom (λ c. c < m) (copiedCell used old) (λ i c k. pick (ltb i used) i c k) 0 new a
     where
       pick : (q : Bool) (i c : ℕ) → c < m → cond q (getD old i 0) c < m
       pick true i c k = h i
@@ -97,14 +99,14 @@ module _ (s : Setting) (seeds : List ℕ) (old : State) (new : List ℕ) where
         code = by-over (λ l. l .code ≡ refusalNumber refusal) (λ e. sym (ap refusalNumber e)) (λ k. refl);
         refused = by-over (λ l. l .code ≢ 0 → l .counters ≡ new) (λ e h. absurd (h refl)) (λ k h. refl);
         used = by-over (λ l. l .code ≡ 0 → (i : ℕ) → i < countersUsed s → getD (l .counters) i 0 ≡ getD (old .counters) i 0)
-            (λ e z. over-used s (old .counters) new (taken s seeds old new e .longNew)) (λ k z. absurd (omega arith));
-        rest = by-over (λ l. SameFrom (countersUsed s) new (l .counters)) (λ e. over-rest s (old .counters) new) (λ k. (refl, λ i h. refl));
+            (λ e z. copied-used (countersUsed s) (old .counters) new (taken s seeds old new e .longNew)) (λ k z. absurd (omega arith));
+        rest = by-over (λ l. SameFrom (countersUsed s) new (l .counters)) (λ e. copied-rest (countersUsed s) (old .counters) new) (λ k. (refl, λ i h. refl));
       }
 
 pub fits-over : FitsOver
 fits-over s seeds old new a b =
     by-over s seeds old new (λ l. Fits 32 (l .counters))
-    (λ e. over-fits s (old .counters) new (2 ^ 32) (λ i. omega (arith, below-at (2 ^ 16) (old .counters) i (omega arith) a)) b) (λ k. b)
+    (λ e. copied-fits (countersUsed s) (old .counters) new (2 ^ 32) (λ i. omega (arith, below-at (2 ^ 16) (old .counters) i (omega arith) a)) b) (λ k. b)
 
 -- ---- a state of a list
 

@@ -20,12 +20,16 @@ changeOverRefusal s seeds old new =
     (refuse (tooShort s old || ltb (length new) (countersUsed s)) shortBuffer
     (refuse (not (memoryOk s old)) badMemory none))
 
--- the new counters, by place and content: the used part holds the old ones, as numbers, and the rest what it held
-abbrev pub takenCell : Setting → List ℕ → ℕ → ℕ → ℕ
-takenCell s old i c = cond (ltb i (countersUsed s)) (getD old i 0) c
+-- counters copied, by place and content: the first `used` cells hold the old ones, as numbers, and the rest what it held
+abbrev pub copiedCell : ℕ → List ℕ → ℕ → ℕ → ℕ
+copiedCell used old i c = cond (ltb i used) (getD old i 0) c
 
-unfoldable pub takenOver : Setting → List ℕ → List ℕ → List ℕ
-takenOver s old new = mapCells (takenCell s old) new
+unfoldable pub copied : ℕ → List ℕ → List ℕ → List ℕ
+copied used old new = mapCells (copiedCell used old) new
+
+-- "A saved state of the old width is taken over": the used part of the counters
+abbrev pub takenOver : Setting → List ℕ → List ℕ → List ℕ
+takenOver s old new = copied (countersUsed s) old new
 
 -- What the change-over leaves: its return code and the new counters. All else is lent for reading: it moves no clock.
 pub record ChangedOver : Type 0 where

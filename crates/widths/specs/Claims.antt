@@ -7,13 +7,14 @@ use Prim.Native.Nat.{ℕ, _+_, _^_, _≤_, _<_}
 use lib.Dec.{T}
 use lib.ListN.{length, getD}
 use Rattle.rules.specs.declared.Setting.{Setting}
+use Rattle.rules.specs.Cells.{All}
 use Rattle.rules.specs.Answers.{none, outOfRange, shortWindow, badDelay, longHistory, aboveLimit, shortBuffer, badMemory, refusalNumber}
 use Rattle.rules.specs.Setting.{settingOf, historyLength, rowBound, settingRefusal}
 use Rattle.rules.specs.State.{State, countersUsed, tooShort, fresh}
 use Rattle.rules.specs.History.{memoryOk}
 use Rattle.rules.specs.Policy.{limits01, limits02, narrow, wide}
 use Rattle.rules.specs.Tested.{Long}
-use Rattle.rules.specs.Calls.{Call, setupRefusal, replies, after, Activation, activations, timesActivated}
+use Rattle.rules.specs.Calls.{Call, refused, finished, setup, setupRefusal, replies, after, Activation, activations, timesActivated}
 use Rattle.rules.specs.Claims.{spanBound, Spans, Demand3, SameFrom, Fits}
 use Rattle.rules.specs.Samples.{house, tableOne}
 use Rattle.widths.specs.ChangeOver.{changeOverRefusal, changeOver, changedState}
@@ -88,24 +89,32 @@ TakenInList =
 
 -- ---- answers as before
 
--- The new-width calls of a list after the change-over, beside the same list of old-width calls without it: equal replies, and after the list
--- equal heads, history and thread counters, whole buffers, and equal used counters; the rest of the new counters is as it was.
-pub record SameAnswers (s : Setting) (seeds : List ℕ) (old : State) (new : List ℕ) (cs : List Call) : Type 0 where
-  pub replies : replies wide s seeds (changedState s seeds old new) cs ≡ replies narrow s seeds old cs
-  pub head : after wide s seeds (changedState s seeds old new) cs .head ≡ after narrow s seeds old cs .head
-  pub ticks : after wide s seeds (changedState s seeds old new) cs .ticks ≡ after narrow s seeds old cs .ticks
-  pub rows : after wide s seeds (changedState s seeds old new) cs .rows ≡ after narrow s seeds old cs .rows
-  pub threads : after wide s seeds (changedState s seeds old new) cs .threads ≡ after narrow s seeds old cs .threads
-  pub counters : (i : ℕ) → i < countersUsed s
-      → getD (after wide s seeds (changedState s seeds old new) cs .counters) i 0 ≡ getD (after narrow s seeds old cs .counters) i 0
-  pub rest : SameFrom (countersUsed s) new (after wide s seeds (changedState s seeds old new) cs .counters)
+-- The state b of new-width calls after the change-over, beside the state a of the same old-width calls without it: equal heads, history and thread
+-- counters, whole buffers, and equal used counters; the rest of the new counters is as it was.
+pub record SameLeft (s : Setting) (new : List ℕ) (a b : State) : Type 0 where
+  pub head : b .head ≡ a .head
+  pub ticks : b .ticks ≡ a .ticks
+  pub rows : b .rows ≡ a .rows
+  pub threads : b .threads ≡ a .threads
+  pub counters : (i : ℕ) → i < countersUsed s → getD (b .counters) i 0 ≡ getD (a .counters) i 0
+  pub rest : SameFrom (countersUsed s) new (b .counters)
 
 -- "after the change-over it answers every later call under the change-over's setting as it would have before": of every state that the change-over
--- does not refuse, whether calls can leave it or not, and every list of calls.
+-- does not refuse, whether calls can leave it or not, and every list of calls, the replies are equal and what they leave is the same ..
 abbrev pub AnswersAsBefore : Type 0
 AnswersAsBefore =
+    (s : Setting) (seeds : List ℕ) (old : State) (new : List ℕ) → changeOverRefusal s seeds old new ≡ none → (cs : List Call)
+    → let taken = changedState s seeds old new in
+    (replies wide s seeds taken cs ≡ replies narrow s seeds old cs) × SameLeft s new (after narrow s seeds old cs) (after wide s seeds taken cs)
+
+-- .. and so of set-up, which is a call too, after every such list: neither width refuses it, and what it leaves is the same.
+abbrev pub SetUpAsBefore : Type 0
+SetUpAsBefore =
     (s : Setting) (seeds : List ℕ) (old : State) (new : List ℕ) → changeOverRefusal s seeds old new ≡ none
-    → (cs : List Call) → SameAnswers s seeds old new cs
+    → (cs : List Call)
+    → let a = setup limits01 s seeds (after narrow s seeds old cs) in
+    let b = setup limits02 s seeds (after wide s seeds (changedState s seeds old new) cs) in
+    (a .reply ≡ finished) × (b .reply ≡ finished) × SameLeft s new (a .state) (b .state)
 
 -- ---- demand 3 and spans of every length
 
@@ -133,6 +142,16 @@ Demand3Over =
     → (later : List Call) (bank row start : ℕ)
     → timesActivated bank row start (s .w) (activationsOver s seeds (fresh s before) earlier new later) ≤ s .l
 
+-- ---- what memory is never refused
+
+-- No call of such a list is refused with 6 or 7: of those before the change-over `NeverMemory` of the rules says it, this of those after it.
+abbrev pub NeverMemoryOver : Type 0
+NeverMemoryOver =
+    (s : Setting) (seeds : List ℕ) (before : State) → setupRefusal limits01 s seeds before ≡ none
+    → (earlier : List Call) (new : List ℕ) → changeOverRefusal s seeds (after narrow s seeds (fresh s before) earlier) new ≡ none
+    → (later : List Call) → let taken = changedState s seeds (after narrow s seeds (fresh s before) earlier) new in
+    All (λ r. (r ≢ refused shortBuffer) × (r ≢ refused badMemory)) (replies wide s seeds taken later)
+
 -- ---- all of it
 
 pub record Theorems : Type 0 where
@@ -144,8 +163,10 @@ pub record Theorems : Type 0 where
   pub fitsOver : FitsOver
   pub takenInList : TakenInList
   pub answersAsBefore : AnswersAsBefore
+  pub setUpAsBefore : SetUpAsBefore
   -- lists after a new-width set-up, and lists with a change-over
   pub spansWide : Spans wide
   pub demand3Wide : Demand3 wide
   pub spansOver : SpansOver
   pub demand3Over : Demand3Over
+  pub neverMemoryOver : NeverMemoryOver

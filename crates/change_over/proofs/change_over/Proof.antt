@@ -1,7 +1,7 @@
 -- `change_over` is refused as the rules say, or copies the used counters.
 use Prim.Native.Nat.{min}
 use mathlib.Core.Bool.{true}
-use mathlib.Core.Path.{_≡_, ap, ap₂, _∙_}
+use mathlib.Core.Path.{_≡_, ap₂, _∙_}
 use native.Mathlib.Omega.{arith}
 use lib.ListN.{length}
 use Rattle.rules.specs.declared.Setting.{Setting}
@@ -18,9 +18,12 @@ use borrow.Author.Needs.{needs}
 use Rattle.change_over.proofs.change_over.Statement.{statement}
 use Rattle.change_over.proofs.change_over.Tie as tie
 
--- the start, from where the code is known, and where it is 0
+-- the start, from where the shorter length is known, from where the code is, and from where it is 0
+abbrev measured : tie.After-shorter → tie.Start
+measured c = (c .before .before .before .before .before .before .before .before)
+
 abbrev asked : tie.After-lent-refusal → tie.Start
-asked c = (c .before .before .before .before .before .before .before .before .before)
+asked c = measured (c .before)
 
 abbrev begun : tie.Else1 → tie.Start
 begun c = asked (c .before)
@@ -49,7 +52,7 @@ shorter-requires : tie.Need-shorter-requires
 shorter-requires c κs = search needs
 
 lent-refusal-requires : tie.Need-lent-refusal-requires
-lent-refusal-requires c κs = (rw (c .before .before .before .before .before .before .before .before .pre) (omega arith), c .before .difference .ensures)
+lent-refusal-requires c κs = (rw (measured c .pre) (omega arith), c .before .difference .ensures)
 
 returns : tie.Need-returns
 returns c =

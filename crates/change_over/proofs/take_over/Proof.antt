@@ -3,8 +3,9 @@ use Prim.Native.Nat.{_-_, _≤_}
 use mathlib.Core.Path.{_≡_, refl, ap, _∙_}
 use native.Mathlib.Omega.{arith}
 use lib.ListN.{length, getD, set}
-use Rattle.change_over.specs.Copied.{copied}
-use Rattle.change_over.proofs.Changes.{copied-none, copied-more, copied-long}
+use Rattle.widths.specs.ChangeOver.{copied}
+use Rattle.widths.proofs.ChangeOver.{copied-rest}
+use Rattle.change_over.proofs.Changes.{copied-none, copied-more}
 use borrow.Author.Needs.{needs}
 use Rattle.change_over.proofs.take_over.Statement.{statement}
 use Rattle.change_over.proofs.take_over.Tie as tie
@@ -16,8 +17,10 @@ abbrev μ-loop : tie.MeasureT-loop
 μ-loop old counters₀ used i₀ counters i = used - i
 
 -- the length stays
-long : (c : tie.In-loop Inv-loop μ-loop) → length (c .before .loop .counters) ≡ length (c .before .before .args .counters .now)
-long c = ap length (c .before .loop .inv .1) ∙ copied-long (c .before .loop .i) (c .before .before .args .old .now) (c .before .before .args .counters .now)
+long : (c : tie.At-loop Inv-loop μ-loop) → length (c .loop .counters) ≡ length (c .before .args .counters .now)
+long c =
+    let a = c .before .args in
+    ap length (c .loop .inv .1) ∙ copied-rest (c .loop .i) (a .old .now) (a .counters .now) .0
 
 loop-holds : tie.Need-loop-holds Inv-loop μ-loop
 loop-holds c = (omega arith, copied-none (c .args .old .now) (c .args .counters .now))
@@ -35,7 +38,7 @@ mul-counters-2 : tie.Need-mul-counters-2 Inv-loop μ-loop
 mul-counters-2 c = search needs
 
 slice-write-counters : tie.Need-slice-write-counters Inv-loop μ-loop
-slice-write-counters c = let k = long (c .before) in omega (arith, c .before .before .before .pre .1)
+slice-write-counters c = let k = long (c .before .before) in omega (arith, c .before .before .before .pre .1)
 
 add-i : tie.Need-add-i Inv-loop μ-loop
 add-i c = search needs
@@ -50,13 +53,14 @@ loop-again c =
     (omega arith, ap (λ x. set x (l .i) (getD (here .args .old .now) (l .i) 0)) (l .inv .1) ∙ copied-more (l .i) (here .args .old .now) (here .args .counters .now) _ (omega (arith, here .pre .1)) refl)
 
 same-length : tie.Need-same-length Inv-loop μ-loop
-same-length c = ap length (c .before .loop .inv .1) ∙ copied-long (c .before .loop .i) (c .before .before .args .old .now) (c .before .before .args .counters .now)
+same-length c = long (c .before)
 
 returns : tie.Need-returns Inv-loop μ-loop
 returns c =
     let l = c .before .loop in
-    let all : l .i ≡ c .before .before .args .used = omega arith in
-    l .inv .1 ∙ ap (λ n. copied n (c .before .before .args .old .now) (c .before .before .args .counters .now)) all
+    let a = c .before .before .args in
+    let all : l .i ≡ a .used = omega arith in
+    l .inv .1 ∙ ap (λ n. copied n (a .old .now) (a .counters .now)) all
 
 pub take-over-spec : {M : Type 1} → statement M
 take-over-spec =
