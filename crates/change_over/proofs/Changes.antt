@@ -15,6 +15,7 @@ use Rattle.rules.specs.Setting.{historyLength, settingRefusal}
 use Rattle.rules.specs.State.{State, countersUsed, threadsUsed, headOf, tooShort}
 use Rattle.rules.specs.History.{memoryOk}
 use Rattle.rules.specs.Policy.{limits01}
+use Rattle.rules.proofs.Tests.{or-false, or-true}
 use Rattle.rules.proofs.Cells.{map-same, store-map}
 use Rattle.rules.proofs.Accept.{number-none}
 use Rattle.memory.specs.Memory.{memoryTest}
@@ -22,7 +23,7 @@ use Rattle.lengths.specs.Lengths.{shortTest, setupTest}
 use Rattle.refusal.specs.Tests.{lentTest}
 use Rattle.refusal.proofs.Refusals.{refuse-parts}
 use Rattle.widths.specs.ChangeOver.{changeOverRefusal, copiedCell, copied, changedOver, changeOver}
-use Rattle.widths.proofs.ChangeOver.{or-comm, Taken, taken}
+use Rattle.widths.proofs.ChangeOver.{Taken, taken}
 use Rattle.interface.specs.Left.{found}
 
 -- ---- the copy
@@ -57,8 +58,8 @@ shorter-short a b u = go (decLt a u) (decLt b u)
 -- the second of five tests may stand last
 second-last : (x y p q r : Bool) → (((x || y) || p) || q) || r ≡ (((x || p) || q) || r) || y
 second-last true y p q r = refl
-second-last false true p q r = or-comm true (p || q || r)
-second-last false false p q r = or-comm false (p || q || r)
+second-last false true p q r = sym (or-true (p || q || r))
+second-last false false p q r = sym (or-false (p || q || r))
 
 module _ (s : Setting) (seeds words old new ticks rows threads : List ℕ) where
   -- the state with the old counters

@@ -38,7 +38,7 @@ use Rattle.rules.proofs.Step.{by-refusal}
 same-from : (n : ℕ) (l : List ℕ) → SameFrom n l l
 same-from n l = (refl, λ i h. refl)
 
-then-from : (n : ℕ) (a b c : List ℕ) → SameFrom n a b → SameFrom n b c → SameFrom n a c
+pub then-from : (n : ℕ) (a b c : List ℕ) → SameFrom n a b → SameFrom n b c → SameFrom n a c
 then-from n a b c x y = (y .0 ∙ x .0, λ i h. y .1 i h ∙ x .1 i h)
 
 clear-from : (n : ℕ) (p : ℕ → Bool) (l : List ℕ) → ((i : ℕ) → T (p i) → i < n) → SameFrom n l (clearCells p l)

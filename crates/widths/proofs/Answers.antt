@@ -21,6 +21,7 @@ use Rattle.rules.proofs.Memory.{fresh-long}
 use Rattle.rules.proofs.Step.{unless-taken}
 use Rattle.rules.proofs.Sound.{long-not-short}
 use Rattle.rules.proofs.Used.{fresh-used}
+use Rattle.rules.proofs.Rest.{then-from}
 use Rattle.rules.proofs.Theorems.{theorems as rules}
 use Rattle.widths.specs.ChangeOver.{changeOverRefusal, changedState}
 use Rattle.widths.specs.Claims.{SameLeft, AnswersAsBefore, SetUpAsBefore}
@@ -120,9 +121,6 @@ module _ (s : Setting) (seeds : List ℕ) (e : settingRefusal limits01 s seeds �
       (refl, refl, fresh-same s a b t)
 
 -- ---- the rest of the new counters
-
-then-from : (n : ℕ) (a b c : List ℕ) → SameFrom n a b → SameFrom n b c → SameFrom n a c
-then-from n a b c x y = (y .0 ∙ x .0, λ i h. y .1 i h ∙ x .1 i h)
 
 run-rest : (p : Policy) (s : Setting) (seeds : List ℕ) (first : List ℕ) (cs : List Call) (st : State) → SameFrom (countersUsed s) first (st .counters)
     → SameFrom (countersUsed s) first (after p s seeds st cs .counters)

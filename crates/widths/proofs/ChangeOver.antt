@@ -18,7 +18,7 @@ use Rattle.rules.specs.Policy.{limits01, narrow}
 use Rattle.rules.specs.Tested.{Long, Sound}
 use Rattle.rules.specs.Calls.{Call, setupRefusal, step, after}
 use Rattle.rules.specs.Claims.{SameFrom, Fits}
-use Rattle.rules.proofs.Tests.{holds, fails, is-true, is-false, not-or}
+use Rattle.rules.proofs.Tests.{holds, fails, is-true, is-false, or-true, not-or}
 use Rattle.rules.proofs.Cells.{length-mapCells, getD-mapCells, getD-kept, all-mapFrom}
 use Rattle.rules.proofs.Accept.{number-none, not-zero, orElse-none, refuse-none, first-refusal, long-enough, set-up}
 use Rattle.rules.proofs.Memory.{memory-ok}
@@ -29,19 +29,13 @@ use Rattle.widths.specs.Claims.{Refuses, Leaves, FitsOver, TakenInList}
 
 -- ---- the refusals
 
-pub or-comm : (a b : Bool) → (a || b) ≡ (b || a)
-or-comm true true = refl
-or-comm true false = refl
-or-comm false true = refl
-or-comm false false = refl
-
 pub refuses : (s : Setting) (seeds : List ℕ) (old : State) (new : List ℕ) → Refuses s seeds old new
 unfolding changeOverRefusal
 refuses s seeds old new =
     record {
       setting = λ h. first-refusal (λ r. r ≡ settingRefusal limits01 s seeds) (settingRefusal limits01 s seeds) _ (λ e. absurd (h e)) (λ k. refl);
       oldShort = λ e h. rw (e, is-true (tooShort s old) h);
-      newShort = λ e h. rw (e, lt-ltb (length new) (countersUsed s) h, or-comm (tooShort s old) true);
+      newShort = λ e h. rw (e, lt-ltb (length new) (countersUsed s) h, or-true (tooShort s old));
       memory = λ e l k h. rw (e, long-not-short s old l, le-ltb (length new) (countersUsed s) k, is-false (memoryOk s old) (not-T (memoryOk s old) h));
       taken = λ e l k h. rw (e, long-not-short s old l, le-ltb (length new) (countersUsed s) k, is-true (memoryOk s old) h);
     }
