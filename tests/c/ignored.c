@@ -19,9 +19,9 @@ static uint8_t block[THROTTLE_LOG_BLOCK];
 #define OLD_STATE \
     setting, seeds, THROTTLE_SEEDS, head, counters, 2048, wide_counters, 2048, ticks, 8, rows, 8, threads, 3
 
-int main(void)
+/* Calls of the old width. */
+static void old_width(void)
 {
-    throttle_house_seeds(seeds);
 #ifdef IGNORE_throttle_setup
     throttle_setup(STATE);
 #endif
@@ -34,6 +34,11 @@ int main(void)
 #ifdef IGNORE_throttle_index
     throttle_index(STATE, 0, 0, 0, index_out);
 #endif
+}
+
+/* Calls of the new width, and the change-over. */
+static void new_width(void)
+{
 #ifdef IGNORE_throttle_wide_setup
     throttle_wide_setup(WIDE_STATE);
 #endif
@@ -49,6 +54,11 @@ int main(void)
 #ifdef IGNORE_throttle_change_over
     throttle_change_over(OLD_STATE);
 #endif
+}
+
+/* A row's test, the log writer and the planner. */
+static void beside_state(void)
+{
 #ifdef IGNORE_throttle_row
     throttle_row(70000, &row);
 #endif
@@ -67,6 +77,14 @@ int main(void)
 #ifdef IGNORE_throttle_wide_delays
     throttle_wide_delays(setting, delays);
 #endif
+}
+
+int main(void)
+{
+    throttle_house_seeds(seeds);
+    old_width();
+    new_width();
+    beside_state();
     return throttle_setup(STATE) + throttle_request(STATE, 0, 0, 0, 5, out) + throttle_row(5, &row) +
            throttle_index(STATE, 0, 0, 0, index_out) + throttle_delays(setting, delays) +
            throttle_wide_delays(setting, delays) + throttle_log_seal(block, 1, 1) + throttle_change_over(OLD_STATE) +

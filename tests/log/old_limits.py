@@ -23,7 +23,8 @@ THRESHOLDS = {32_767: 0, 32_768: 0, 32_769: 1, 65_535: 1, 65_536: 1, 65_537: 1, 
 # What tD gets, under HISTORY: four history places for each tick.
 DELAYS = {1_023: 0, 1_024: 0, 1_025: 4, 1_026: 4, 2_048: 4, 4_096: 4, 8_191: 4, 8_192: 4, 8_193: 4, 20_000: 4, 20_001: 3}
 
-# Settings above a limit that meet another refusal too; a setting above the history's limit gets 4 under both profiles.
+# Settings above a limit that meet another refusal too, and some at or above one or both limits that meet no other. 4 comes before 16, so
+# that it is given under both profiles.
 OTHERS = {
     "both": (BOTH, 1), "chip": (CHIP, 4), "both-history-alone": (changed(BOTH, N, 32_768), 4),
     "both-threshold-alone": (changed(BOTH, TD, 67_107_840), 1), "both-none": (changed(changed(BOTH, N, 32_768), TD, 67_107_840), 0),

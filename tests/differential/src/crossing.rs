@@ -1,31 +1,43 @@
 //! Lists of calls with a change-over in the middle, on the library and on the second
-//! implementation: calls of the old width, change-overs that are refused anywhere
-//! among them, one that is not, and then calls of the new width on the same memory
-//! with the new counters.
+//! implementation: calls of the old width, one change-over that is answered, and
+//! then calls of the new width on the same memory with the new counters. Change-overs
+//! that are refused stand anywhere, before it and after it. Where only the new width
+//! accepts the setting, a list begins with its set-up.
 
 use crate::call::Call;
 use crate::contents::{fill_any, fill_near, spoil};
+use crate::late;
 use crate::lent::Lent;
 use crate::numbers::Numbers;
 use crate::pair::{Difference, Pair};
 use crate::profiles::near;
-use crate::settings::{large, medium, seeds, small, BANKS, N};
+use crate::settings::{accepted, large, medium, seeds, small, BANKS, N, W};
 use crate::walk::Walk;
 use crate::wide::around;
-use second::{Fault, Setting, OLD};
+use second::{Fault, Setting, NEW, OLD};
 
 /// Lists that are made.
 const LISTS: u64 = 4_000;
 /// Most calls before the change-over, and most after it.
 const CALLS: u64 = 12;
 
+/// What was reached by calls of the new width.
+#[derive(Debug, Default)]
+pub struct Wide {
+    /// Calls that were answered.
+    pub calls: u64,
+    /// Requests by their answer.
+    pub answers: [u64; 5],
+    /// Change-overs among the calls.
+    pub late: late::Told,
+}
+
 /// What was reached.
 #[derive(Debug, Default)]
 pub struct Told {
-    /// Calls that were answered before the change-over and after it.
+    /// Calls that were answered before the change-over.
     pub before: u64,
-    pub after: u64,
-    /// Change-overs by their number.
+    /// Change-overs by their number, up to the one that was answered.
     pub numbers: [u64; 17],
     /// Change-overs of memory that was not set up, with a counter above N, and with
     /// one of 32,768 or more; and of buffers that are longer than used.
@@ -33,8 +45,9 @@ pub struct Told {
     pub above: u64,
     pub high: u64,
     pub longer: u64,
-    /// Requests after the change-over by their answer.
-    pub answers: [u64; 5],
+    /// After the change-over, and in lists that begin at the new width.
+    pub after: Wide,
+    pub alone: Wide,
 }
 
 /// Makes all lists, the second implementation with a fault or without, and stops at
@@ -67,16 +80,41 @@ fn one(numbers: &mut Numbers, fault: Fault, told: &mut Told) -> Result<(), Box<D
     }
     let (number, counters) = pair.change_over(&new_counters(numbers, &setting))?;
     told.numbers[number as usize] += 1;
-    if number != 0 {
-        return Ok(());
+    let Lent { seeds, state, .. } = pair.lent();
+    let old = &state.counters;
+    if number == 0 {
+        note(&pair, fresh, told);
+        let mut pair = pair.widened(counters);
+        new_width(numbers, &mut walk, &mut pair, old, &mut told.after)
+    } else if accepted(&NEW, &setting) && !accepted(&OLD, &setting) {
+        let mut pair = Pair::new(Lent::exact(NEW, setting, seeds), fault);
+        pair.call(&Call::SETUP)?;
+        new_width(numbers, &mut walk, &mut pair, old, &mut told.alone)
+    } else {
+        Ok(())
     }
-    note(&pair, fresh, told);
-    let mut wide = pair.widened(counters);
-    for _ in 0..numbers.within(1, CALLS) {
-        let (answered, answer) = step(&mut walk, &mut wide)?;
-        told.after += u64::from(answered);
-        if let Some(answer) = answer {
-            told.answers[answer as usize] += 1;
+}
+
+/// Makes calls of the new width, and change-overs that are refused before, between
+/// and after them. `old` are the counters of the old width.
+fn new_width(
+    numbers: &mut Numbers,
+    walk: &mut Walk,
+    pair: &mut Pair,
+    old: &[u32],
+    reached: &mut Wide,
+) -> Result<(), Box<Difference>> {
+    let calls = numbers.within(1, CALLS);
+    for call in 0..=calls {
+        if numbers.one_in(3) {
+            late::refused(numbers, pair, &walk.rows, old, &mut reached.late)?;
+        }
+        if call < calls {
+            let (answered, answer) = step(walk, pair)?;
+            reached.calls += u64::from(answered);
+            if let Some(answer) = answer {
+                reached.answers[answer as usize] += 1;
+            }
         }
     }
     Ok(())
@@ -151,6 +189,7 @@ fn refused(
         4 => lent.setting[N] = numbers.pick(&[0, 32_769, 1 << 20, (1 << 20) + 1]),
         5 => lent.setting = around(numbers),
         6 => lent.setting[numbers.within(0, 9) as usize] = numbers.word(),
+        7 => lent.setting[W] = 2,
         _ => spoil(numbers, &mut lent),
     }
     let (number, _) = Pair::new(lent, fault).change_over(&counters)?;

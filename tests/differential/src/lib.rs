@@ -18,6 +18,7 @@
 //! - `edges`: settings at the bounds of both widths, for every call
 //! - `change_refusals`: the refusals of the change-over and their order
 //! - `crossing`: lists of calls with a change-over in the middle
+//! - `late`: change-overs that are refused among calls of the new width
 //! - `beside`: a state that was taken over beside one that was not
 //! - `rings`: histories at the edges of refusal 7
 //! - `far`: history places that only the new width has
@@ -39,6 +40,7 @@ pub mod crossing;
 pub mod edges;
 pub mod far;
 pub mod hashes;
+pub mod late;
 pub mod lent;
 pub mod levels;
 mod library;

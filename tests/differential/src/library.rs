@@ -147,28 +147,55 @@ pub fn call(memory: &mut Memory, call: &Call) -> u32 {
     }
 }
 
-/// Makes the change-over from memory of the old width to new counters.
-pub fn change_over(memory: &Memory, counters: &mut Guarded<u32>) -> u32 {
-    let Counters::Old(old) = &memory.counters else {
-        panic!("the memory is not of the old width");
-    };
+/// What a change-over reads, each buffer as far as it is given.
+pub struct Given<'a> {
+    pub setting: &'a [u64],
+    pub seeds: &'a [u16],
+    pub head: &'a [u64],
+    pub counters: &'a [u16],
+    pub ticks: &'a [u64],
+    pub rows: &'a [u32],
+    pub threads: &'a [u32],
+}
+
+impl<'a> Given<'a> {
+    /// All of memory of the old width.
+    pub fn of(memory: &'a Memory) -> Self {
+        let Counters::Old(old) = &memory.counters else {
+            panic!("the memory is not of the old width");
+        };
+        Given {
+            setting: memory.setting.cells(),
+            seeds: memory.seeds.cells(),
+            head: memory.head.cells(),
+            counters: old.cells(),
+            ticks: memory.ticks.cells(),
+            rows: memory.rows.cells(),
+            threads: memory.threads.cells(),
+        }
+    }
+}
+
+/// Makes the change-over to new counters.
+pub fn change_over(given: &Given, counters: &mut [u32]) -> u32 {
+    assert_eq!((given.setting.len(), given.head.len()), (10, 22));
     // The pointers are those of live, separate buffers of these lengths.
     unsafe {
         throttle_change_over(
-            memory.setting.cells().as_ptr(),
-            memory.seeds.cells().as_ptr(),
-            memory.seeds.cells().len(),
-            memory.head.cells().as_ptr(),
-            old.cells().as_ptr(),
-            old.cells().len(),
-            counters.cells_mut().as_mut_ptr(),
-            counters.cells().len(),
-            memory.ticks.cells().as_ptr(),
-            memory.ticks.cells().len(),
-            memory.rows.cells().as_ptr(),
-            memory.rows.cells().len(),
-            memory.threads.cells().as_ptr(),
-            memory.threads.cells().len(),
+            given.setting.as_ptr(),
+            given.seeds.as_ptr(),
+            given.seeds.len(),
+            given.head.as_ptr(),
+            given.counters.as_ptr(),
+            given.counters.len(),
+            counters.as_mut_ptr(),
+            counters.len(),
+            given.ticks.as_ptr(),
+            given.ticks.len(),
+            given.rows.as_ptr(),
+            given.rows.len(),
+            given.threads.as_ptr(),
+            given.threads.len(),
         )
     }
 }

@@ -2,8 +2,9 @@
 //! to both, and everything either can change is compared after it.
 
 use crate::call::{Answer, Call};
+use crate::late::Late;
 use crate::lent::Lent;
-use crate::library;
+use crate::library::{self, Given};
 use crate::memory::{Cell, Counters, Guarded, Memory};
 use crate::settings::MARK;
 use crate::side::{Library, Second, Side};
@@ -103,7 +104,7 @@ impl Pair {
     pub fn change_over(&mut self, counters: &[u32]) -> Result<(u32, Vec<u32>), Box<Difference>> {
         let head = self.second.lent.state.head;
         let mut new = Guarded::new(counters);
-        let number = library::change_over(&self.library.memory, &mut new);
+        let number = library::change_over(&Given::of(&self.library.memory), new.cells_mut());
         let mut wanted = counters.to_vec();
         let (config, state) = self.second.lent.parts(self.second.fault);
         let expected = change_over(&config, state, &mut wanted);
@@ -114,6 +115,25 @@ impl Pair {
         let lengths = || format!("change-over to {} counters", counters.len());
         self.compared(what, head, lengths)?;
         Ok((number, wanted))
+    }
+
+    /// Makes a change-over that is to be refused into the counters of this pair,
+    /// which is of the new width, and compares all memory: with the second
+    /// implementation, and with what it was before.
+    pub fn change_over_late(&mut self, late: &Late) -> Result<u32, Box<Difference>> {
+        let before = self.lent();
+        let old = late.given(&before.state);
+        let other = Library::new(&old).memory;
+        let number = late.of_library(&mut self.library.memory, &other);
+        let mut after = old.clone();
+        let expected = late.of_second(&mut after, &mut self.second);
+        let what = cells("number", &[number], &[expected])
+            .or_else(|| self.difference())
+            .or_else(|| difference(&other, &after))
+            .or_else(|| difference(&self.library.memory, &before))
+            .or_else(|| difference(&other, &old));
+        self.compared(what, before.state.head, || late.arguments())?;
+        Ok(number)
     }
 
     /// Goes on in the new width with these counters and the other memory.
@@ -142,19 +162,23 @@ impl Pair {
         }
     }
 
-    /// The first difference of the memory.
+    /// The first difference of the memory of the two.
     fn difference(&self) -> Option<String> {
-        let (memory, lent) = (&self.library.memory, &self.second.lent);
-        let state = &lent.state;
-        cells("head", memory.head.cells(), &state.head)
-            .or_else(|| counters(&memory.counters, &state.counters))
-            .or_else(|| cells("ticks", memory.ticks.cells(), &state.ticks))
-            .or_else(|| cells("rows", memory.rows.cells(), &state.rows))
-            .or_else(|| cells("threads", memory.threads.cells(), &state.threads))
-            .or_else(|| cells("setting", memory.setting.cells(), &lent.setting))
-            .or_else(|| cells("seeds", memory.seeds.cells(), &lent.seeds))
-            .or_else(|| (!memory.intact()).then(|| "guard cells changed".to_string()))
+        difference(&self.library.memory, &self.second.lent)
     }
+}
+
+/// The first difference of memory from what it is expected to be.
+fn difference(memory: &Memory, lent: &Lent) -> Option<String> {
+    let state = &lent.state;
+    cells("head", memory.head.cells(), &state.head)
+        .or_else(|| counters(&memory.counters, &state.counters))
+        .or_else(|| cells("ticks", memory.ticks.cells(), &state.ticks))
+        .or_else(|| cells("rows", memory.rows.cells(), &state.rows))
+        .or_else(|| cells("threads", memory.threads.cells(), &state.threads))
+        .or_else(|| cells("setting", memory.setting.cells(), &lent.setting))
+        .or_else(|| cells("seeds", memory.seeds.cells(), &lent.seeds))
+        .or_else(|| (!memory.intact()).then(|| "guard cells changed".to_string()))
 }
 
 /// The first filter counter that differs.

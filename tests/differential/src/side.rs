@@ -3,7 +3,7 @@
 
 use crate::call::{Answer, Call, Kind};
 use crate::lent::Lent;
-use crate::library;
+use crate::library::{self, Given};
 use crate::memory::{Counters, Guarded, Memory};
 use second::{change_over, done, index, request, setup, Fault, State, NEW};
 
@@ -63,7 +63,7 @@ impl Side for Library {
 impl Saved for Library {
     fn change_over(&mut self, counters: &[u32]) -> Result<Self, u32> {
         let mut counters = Guarded::new(counters);
-        match library::change_over(&self.memory, &mut counters) {
+        match library::change_over(&Given::of(&self.memory), counters.cells_mut()) {
             0 => Ok(Library {
                 memory: Memory {
                     counters: Counters::New(counters),

@@ -13,6 +13,9 @@ use crate::state::{counters_used, threads_used, State, BANK, IN_FLIGHT, LAST, PL
 /// Writes the new counters and returns 0, or returns the number of the refusal and
 /// changes nothing. Only a fault changes the saved state.
 pub fn change_over(config: &Config, saved: &mut State, counters: &mut [u32]) -> u32 {
+    if config.fault == Fault::ChangeAnswersInUse && in_use(counters) && hold(counters, saved) {
+        return 0;
+    }
     match accepted(config, saved, counters.len()) {
         Ok(rules) => {
             carry(&rules, saved, counters);
@@ -205,6 +208,25 @@ fn at_refusal(config: &Config, saved: &mut State, counters: &mut [u32], number: 
         }
         Fault::ChangeClearsOnRefusal => counters.fill(0),
         Fault::ChangeHeadOnRefusal => saved.head = [0; 22],
+        Fault::ChangeClearsInUse if in_use(counters) => counters.fill(0),
+        Fault::ChangeWritesInUse if in_use(counters) => {
+            let both = counters.iter_mut().zip(&saved.counters);
+            both.for_each(|(new, old)| *new = *old);
+        }
+        Fault::ChangeHeadInUse if in_use(counters) => saved.head = [0; 22],
         _ => {}
     }
+}
+
+/// Do the new counters look like those of a state: for one bank at least, each below
+/// 65,536, and not all 0? Only faults ask.
+fn in_use(counters: &[u32]) -> bool {
+    let any = counters.iter().any(|&counter| counter != 0);
+    any && counters.len() >= 2_048 && counters.iter().all(|&counter| counter < 65_536)
+}
+
+/// Do the new counters hold the old ones, as far as there are both?
+fn hold(counters: &[u32], saved: &State) -> bool {
+    let mut both = counters.iter().zip(&saved.counters);
+    both.all(|(new, old)| new == old)
 }

@@ -155,10 +155,27 @@ fn refused() -> Vec<(u32, Case)> {
 
 #[test]
 fn refusals_one_by_one_and_in_their_order() {
-    for (number, case) in refused() {
+    for (number, case) in refused().into_iter().chain(refused_in_use()) {
         assert_eq!(case.told(Fault::None), (number, case));
     }
     assert_eq!(cut()[0].told(Fault::None).0, 0);
+}
+
+/// The refused cases with new counters that are in use already: they hold the old
+/// ones as a change-over left them, or as calls have moved them on.
+fn refused_in_use() -> Vec<(u32, Case)> {
+    let taken = |(number, mut case): (u32, Case), moved: u32| {
+        let old = case.saved.counters.iter().chain(&[0; 5]);
+        for (place, (new, old)) in case.counters.iter_mut().zip(old).enumerate() {
+            *new = *old;
+            if place % 7 == 0 {
+                *new = (*old + moved) % 65_536;
+            }
+        }
+        (number, case)
+    };
+    let both = |case: (u32, Case)| [taken(case.clone(), 0), taken(case, 1)];
+    refused().into_iter().flat_map(both).collect()
 }
 
 /// Settings at the old limits, and those that only the new width takes.
@@ -262,8 +279,9 @@ fn later_calls_get_the_same_replies() {
 
 #[test]
 fn every_fault_of_the_change_over_shows() {
-    assert!(Fault::CHANGE.len() >= 58);
+    assert!(Fault::CHANGE.len() >= 62);
     let mut cases: Vec<Case> = refused().into_iter().map(|(_, case)| case).collect();
+    cases.extend(refused_in_use().into_iter().map(|(_, case)| case));
     cases.extend(limits().into_iter().map(|(_, case)| case));
     cases.extend(cut());
     cases.push(Case::new());

@@ -23,6 +23,8 @@ use std::process::ExitCode;
 const RUNS: u64 = 160_000;
 const CALLS: u64 = 1_000_000;
 const SHARE: u64 = 8;
+/// What a change-over returns, in the order of the tests.
+const NUMBERS: [usize; 9] = [0, 1, 2, 3, 4, 5, 16, 6, 7];
 
 fn main() -> ExitCode {
     let mut arguments = std::env::args().skip(1).map(|word| word.parse::<u64>());
@@ -157,24 +159,37 @@ fn changed(seed: u64) -> bool {
     let lists = crossing::compare(seed, Fault::None);
     let widths = beside::compare(seed, Library::new);
     none("change-over, refusals", refusals, |told| {
-        [0, 1, 2, 3, 4, 5, 16, 6, 7]
-            .iter()
-            .all(|&number| told.numbers[number] > 3)
+        NUMBERS.iter().all(|&number| told.numbers[number] > 3)
     }) && none("change-over, listed histories", histories, |told| {
         told.sound.min(told.unsound) > 1_000
-    }) && none("change-over, lists", lists, |told| {
-        let numbers = [0, 1, 2, 3, 4, 5, 16, 6, 7];
-        let seldom = numbers.iter().any(|&number| told.numbers[number] < LEAST);
-        let memory = [told.not_set_up, told.above, told.high, told.longer];
-        !seldom
-            && told.before.min(told.after) > 1_000
-            && memory
-                .iter()
-                .chain(&told.answers)
-                .all(|&count| count > LEAST)
-    }) && none("change-over, both widths", widths, |told| {
-        told.changed > 1_000 && told.answered > 10_000
-    })
+    }) && none("change-over, lists", lists, in_lists)
+        && none("change-over, both widths", widths, |told| {
+            told.changed > 1_000 && told.answered > 10_000
+        })
+}
+
+/// Was enough reached in lists with a change-over? Before the one that was answered
+/// each number is to come, and after it each but 0, there also on the calls' own
+/// memory, with 6 by each buffer. Where a list begins at the new width, its own
+/// setting gets 1 or 4.
+fn in_lists(told: &crossing::Told) -> bool {
+    let (after, alone) = (&told.after, &told.alone);
+    let refused = &NUMBERS[1..];
+    let of = |counts: &[u64; 17], numbers: &[usize]| -> Vec<u64> {
+        numbers.iter().map(|&number| counts[number]).collect()
+    };
+    let counts = [
+        of(&told.numbers, &NUMBERS),
+        of(&after.late.numbers, refused),
+        of(&after.late.own, refused),
+        after.late.short.to_vec(),
+        of(&alone.late.numbers, &[1, 4]),
+        vec![told.not_set_up, told.above, told.high, told.longer],
+        after.answers.to_vec(),
+    ];
+    counts.concat().iter().all(|&count| count > LEAST)
+        && told.before.min(after.calls) > 1_000
+        && alone.calls > 500
 }
 
 /// Compares the log writer.

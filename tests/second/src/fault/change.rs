@@ -119,5 +119,15 @@ macro_rules! faults_of_change {
     ChangeClearsOnRefusal,
     /// A change-over that is refused clears the head.
     ChangeHeadOnRefusal,
+    /// A change-over that is refused clears new counters that are in use.
+    ChangeClearsInUse,
+    /// A change-over that is refused writes the old counters to new ones that are in
+    /// use.
+    ChangeWritesInUse,
+    /// A change-over that is refused clears the head where the new counters are in use.
+    ChangeHeadInUse,
+    /// A change-over is answered where the new counters are in use and hold the old
+    /// ones.
+    ChangeAnswersInUse,
     } } };
 }

@@ -1,6 +1,6 @@
 //! Wrong behaviours of the two widths: of the limits, counters and histories of the
-//! new one, of the change-over, and of the limits that the log checker and the
-//! planner take.
+//! new one, of the rules in one of them alone, and of the limits that the planner and
+//! the log checker take.
 
 macro_rules! faults_of_width {
     ([$($rest:ident)*] { $($listed:tt)* }) => { joined! { [$($rest)*] { $($listed)*
