@@ -7,9 +7,10 @@ use filter::bank_estimate;
 use filter_count::count;
 use filterless::Decided;
 use filterless::Estimates;
-use filterless::settle;
+use filterless::decide_by;
 use head::Head;
 use rules::Setting;
+use state::activate;
 ghost use mathlib.Core.Path.{_≡_};
 ghost use Prim.Native.Nat.{_-_, _*_, _%_, _^_, _≤_, _<_};
 ghost use lib.ListN.{length, getD};
@@ -76,13 +77,13 @@ pub fn request(
         four,
         four,
     );
-    let y = settle(
+    let d = decide_by(
         s,
         moved,
         stored,
-        ticks,
-        rows,
-        threads,
+        &*ticks,
+        &*rows,
+        &*threads,
         bank,
         thread,
         row,
@@ -90,14 +91,23 @@ pub fn request(
         e.active,
         e.other,
     );
-    let d = y.decision;
-    let head = y.head;
     if !opens(d) {
         return Decided {
             answer: answer(d, 0),
-            head,
+            head: moved,
         };
     }
+    let head = activate(
+        s,
+        moved,
+        ticks,
+        rows,
+        threads,
+        bank,
+        thread,
+        row,
+        s.n <= e.active,
+    );
     let estimate = count(
         counters,
         bank as usize,

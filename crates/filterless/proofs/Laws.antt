@@ -1,7 +1,7 @@
--- The decision from what is read of the state, and what it leaves.
+-- The decision from what is read of the state.
 use Prim.Native.Nat.{ℕ, _^_, _≤_}
-use mathlib.Core.Path.{_≡_, sym, ap, _∙_}
-use mathlib.Core.Bool.{Bool, true, false, not, true≢false}
+use mathlib.Core.Path.{_≡_, ap, _∙_}
+use mathlib.Core.Bool.{Bool, true, false, not}
 use mathlib.Core.List.{List}
 use native.Mathlib.Omega.{arith}
 use Rattle.head.specs.declared.Head.{Head}
@@ -11,16 +11,12 @@ use Rattle.rules.specs.Policy.{narrow}
 use Rattle.decision.specs.declared.View.{View}
 use Rattle.decision.specs.Numbers.{decideFrom, viewOf}
 use Rattle.state.specs.Ready.{Ready}
-use Rattle.filterless.specs.Settles.{decisionBy}
+use Rattle.filterless.specs.DecisionBy.{decisionBy}
 
 -- a test that was made by its opposite
 pub not-not : (b q : Bool) → not b ≡ q → b ≡ not q
 not-not true q e = ap not e
 not-not false q e = ap not e
-
--- what is shown of one value of a test holds under the other, which it has not
-pub never : {A : Type 0} (b : Bool) → b ≡ true → b ≡ false → A
-never b t f = absurd (true≢false (sym t ∙ f))
 
 module _ (s : Setting) (active other : ℕ) (h : Head) (ticks rows threads : List ℕ) (bank thread row : ℕ) where
   -- the stored ticks that the decision looks at are small

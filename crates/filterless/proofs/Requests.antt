@@ -5,7 +5,7 @@ use mathlib.Core.Path.{_≡_, refl, sym, ap, ap₂, _∙_, subst}
 use mathlib.Core.Bool.{true, false, cond, true≢false}
 use mathlib.Core.List.{List}
 use native.Mathlib.Omega.{arith}
-use lib.ListN.{getD}
+use lib.ListN.{getD, set}
 use Rattle.head.specs.declared.Head.{Head}
 use Rattle.head.specs.Head.{movedHead, activatedHead}
 use Rattle.rules.specs.declared.Setting.{Setting}
@@ -13,7 +13,8 @@ use Rattle.rules.specs.declared.Limits.{Limits}
 use Rattle.rules.specs.declared.Decision.{Decision}
 use Rattle.rules.specs.declared.Decision.the-variants.{Open, Hold, OverQuota}
 use Rattle.rules.specs.declared.Answer.{Answer}
-use Rattle.rules.specs.State.{State, countersUsed, threadsUsed, threadCell, state}
+use Rattle.rules.specs.Setting.{historyLength}
+use Rattle.rules.specs.State.{State, countersUsed, threadsUsed, threadCell, rowWord, state}
 use Rattle.rules.specs.Clock.{epoch, turnedCounters, turnedThreads, turned}
 use Rattle.rules.specs.Hash.{places}
 use Rattle.rules.specs.Filter.{two, estimate, blacklisted, counted}
@@ -31,7 +32,7 @@ use Rattle.rules.proofs.Fits as fits
 use Rattle.decision.specs.Numbers.{decideFrom, passiveEstimate, viewOf}
 use Rattle.decision.proofs.Views.{decide-view}
 use Rattle.state.specs.Ready.{WithinWidest, Bounds, Ready}
-use Rattle.filterless.specs.Settles.{decisionBy, Settles}
+use Rattle.filterless.specs.DecisionBy.{decisionBy}
 
 -- ---- what an accepted setting gives
 
@@ -236,23 +237,16 @@ module _ {m : Limits} (q : Asked m) where
         subst (λ x. getD (x .threads) (threadCell (q .s) (q .bank) (q .thread) 2) 0 < 255) (sym turned-is)
         (fits.few-flying p (in-force-regular m) (q .s) (q .seeds) moved (q .bank) (q .thread) (k .setting) (k .bank-in) (k .thread-in) (rules .0))
 
-    module _ (d : Decision) (ed : d ≡ decision)
-        (h′ : Head) (ticks′ rows′ threads′ : List ℕ)
-        (z : Settles (q .s) (r .active) h (q .found .ticks) (q .found .rows) threads (q .bank) (q .thread) (q .row) d h′ ticks′ rows′ threads′) where
-      -- what a request that has this answer and leaves these counters is to the rules
-      abbrev Answers : Answer → List ℕ → Type 0
-      Answers a cs =
-          (outcome (answered a) (state h′ cs ticks′ rows′ threads′) ≡ requested p (q .s) at moved (q .bank) (q .thread) (q .row))
-          × Sound (q .s) (state h′ cs ticks′ rows′ threads′)
+    module _ (d : Decision) (ed : d ≡ decision) where
+      -- what a request that has this answer and leaves this state is to the rules
+      abbrev Answers : Answer → State → Type 0
+      Answers a left = (outcome (answered a) left ≡ requested p (q .s) at moved (q .bank) (q .thread) (q .row)) × Sound (q .s) left
 
       -- a request that waits leaves the turned state, and has no openings left to tell
-      pub waits-at : (a : Answer) → opens d ≡ false → a ≡ answerOf d 0 → Answers a counters
+      pub waits-at : (a : Answer) → opens d ≡ false → a ≡ answerOf d 0 → Answers a (state h counters (q .found .ticks) (q .found .rows) threads)
       unfolding requested
       waits-at a e ea =
-          let w = z .waits e in
-          let same : state h′ counters ticks′ rows′ threads′ ≡ moved =
-          (λ i. state (w .0 i) counters (w .1 i) (w .2 i) (w .3 i)) ∙ turned-is in
-          ((λ i. outcome (answered (ea i)) (same i)) ∙ waits d e ∙ ap by-decision (decision-at d ed), subst (λ x. Sound (q .s) x) (sym same) moved-sound)
+          ((λ i. outcome (answered (ea i)) (turned-is i)) ∙ waits d e ∙ ap by-decision (decision-at d ed), subst (λ x. Sound (q .s) x) (sym turned-is) moved-sound)
         where
           waits : (d : Decision) → opens d ≡ false → outcome (answered (answerOf d 0)) moved ≡ by-decision d
           waits Open e = absurd (true≢false e)
@@ -260,11 +254,14 @@ module _ {m : Limits} (q : Asked m) where
           waits OverQuota e = refl
 
       -- a request that is opened leaves the state after the activation, and tells the openings left from the estimate then
-      pub opens-at : (a : Answer) (cs : List ℕ) (est : ℕ) → opens d ≡ true → cs ≡ counted (q .s .n) (q .bank) (two four four) counters
-          → est ≡ estimate cs (q .bank) (to % 2) (two four four (to % 2)) → a ≡ answerOf d (q .s .n - est) → Answers a cs
+      pub opens-at : (h′ : Head) (ticks′ rows′ threads′ : List ℕ)
+          → (h′ ≡ activatedHead (historyLength (q .s)) h (q .bank)) × (ticks′ ≡ set (q .found .ticks) (h .next) (h .last + 1))
+          × (rows′ ≡ set (q .found .rows) (h .next) (rowWord (q .bank) (q .row)))
+          × (threads′ ≡ activatedThreads (q .s) threads (q .bank) (q .thread) (blacklisted (q .s .n) (r .active)))
+          → (a : Answer) (cs : List ℕ) (est : ℕ) → opens d ≡ true → cs ≡ counted (q .s .n) (q .bank) (two four four) counters
+          → est ≡ estimate cs (q .bank) (to % 2) (two four four (to % 2)) → a ≡ answerOf d (q .s .n - est) → Answers a (state h′ cs ticks′ rows′ threads′)
       unfolding requested activated activatedHead movedHead
-      opens-at a cs est e ec ee ea =
-          let w = z .opened e in
+      opens-at h′ ticks′ rows′ threads′ w a cs est e ec ee ea =
           let same : state h′ cs ticks′ rows′ threads′ ≡ activated (q .s) (two four four) (state h counters (q .found .ticks) (q .found .rows) threads) (q .bank) (q .thread) (q .row) =
           (λ i. state (w .0 i) (ec i) (w .1 i) (w .2 i) ((w .3 ∙ black-at) i)) in
           let after : state h′ cs ticks′ rows′ threads′ ≡ opened =

@@ -1,1 +1,1 @@
-pub mod Settles
+pub mod DecisionBy

@@ -1,6 +1,5 @@
-// Request, done and index reading apart from the filters, on a state that passed the tests. No function here knows the width of a counter: a call turns
-// its filters by the two epochs that are given back, and counts a row in them where the decision opens it.
-use answers::opens;
+// The decision on a request from the estimates of its row, and done and index reading apart from the filters, on a state that passed the tests. No
+// function here knows the width of a counter: a call turns its filters by the two epochs that are given back.
 use decision::decide;
 use head::Head;
 use rules::Answer;
@@ -8,7 +7,6 @@ use rules::Decision;
 use rules::Setting;
 use state::Turned;
 ghost use mathlib.Core.Path.{_≡_};
-ghost use mathlib.Core.Bool.{true};
 ghost use Prim.Native.Nat.{_%_, _^_, _≤_, _<_};
 ghost use lib.ListN.{length, getD};
 ghost use Rattle.head.specs.Head.{movedHead};
@@ -16,10 +14,9 @@ ghost use Rattle.rules.specs.Setting.{indexScale};
 ghost use Rattle.rules.specs.State.{threadsUsed, threadCell};
 ghost use Rattle.rules.specs.Clock.{epoch, turnedThreads};
 ghost use Rattle.rules.specs.Quota.{indexCounter, quotaEven};
-ghost use Rattle.rules.specs.Decision.{opens};
 ghost use Rattle.rules.specs.Calls.{oneLess};
 ghost use Rattle.state.specs.Ready.{Bounds, Ready};
-ghost use Rattle.filterless.specs.Settles.{decisionBy, Settles};
+ghost use Rattle.filterless.specs.DecisionBy.{decisionBy};
 
 // The estimates of a row in the active and in the other filter.
 pub struct Estimates {
@@ -27,38 +24,32 @@ pub struct Estimates {
     pub other: u64,
 }
 
-// The decision on a request, and the head after it.
-pub struct Settled {
-    pub decision: Decision,
-    pub head: Head,
-}
-
-// Decides on a request for a row with these estimates in the active and in the other filter; where the row is opened, makes the activation but for
-// the filters. e is the epoch of the last tick, stored the bank's cell of the head.
-pub fn settle(
+// The decision on a request for a row with these estimates in the active and in the other filter. e is the epoch of the last tick, stored the bank's
+// cell of the head.
+pub fn decide_by(
     s: Setting,
     h: Head,
     stored: u64,
-    ticks: &mut [u64],
-    rows: &mut [u32],
-    threads: &mut [u32],
+    ticks: &[u64],
+    rows: &[u32],
+    threads: &[u32],
     bank: u64,
     thread: u64,
     row: u16,
     e: u64,
     active: u64,
     other: u64,
-) -> Settled
-    requires { ⌜ Ready s h (now ticks) (now rows) (now threads) bank thread × (e ≡ epoch s (h .last)) × (stored ≡ getD (h .bank) bank 0) × (opens (decisionBy s active other h (now ticks) (now rows) (now threads) bank thread row) ≡ true → getD (now threads) (threadCell s bank thread 2) 0 < 255) ⌝ }
-    ensures { λ r. ⌜ (r .decision ≡ decisionBy s active other h (now (ticks .entry)) (now (rows .entry)) (now (threads .entry)) bank thread row) × Settles s active h (now (ticks .entry)) (now (rows .entry)) (now (threads .entry)) bank thread row (r .decision) (r .head) (now (ticks .exit)) (now (rows .exit)) (now (threads .exit)) ⌝ }
+) -> Decision
+    requires { ⌜ Ready s h (now ticks) (now rows) (now threads) bank thread × (e ≡ epoch s (h .last)) × (stored ≡ getD (h .bank) bank 0) ⌝ }
+    ensures { λ r. ⌜ r ≡ decisionBy s active other h (now (ticks .entry)) (now (rows .entry)) (now (threads .entry)) bank thread row ⌝ }
 {
     let v = state::look::look(
         s,
         h,
         stored,
-        &*ticks,
-        &*rows,
-        &*threads,
+        ticks,
+        rows,
+        threads,
         bank,
         thread,
         row,
@@ -66,15 +57,7 @@ pub fn settle(
         active,
         other,
     );
-    let d = decide(s, h.last, v);
-    if !opens(d) {
-        return Settled {
-            decision: d,
-            head: h,
-        };
-    }
-    let head = state::activate(s, h, ticks, rows, threads, bank, thread, row, s.n <= active);
-    Settled { decision: d, head }
+    decide(s, h.last, v)
 }
 
 // The answer to a request, with the head after it.

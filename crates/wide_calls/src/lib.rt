@@ -4,9 +4,10 @@ use answers::openings_left;
 use answers::opens;
 use filterless::Decided;
 use filterless::Estimates;
-use filterless::settle;
+use filterless::decide_by;
 use head::Head;
 use rules::Setting;
+use state::activate;
 use wide_filter::bank_estimate;
 use wide_filter::count;
 ghost use mathlib.Core.Path.{_≡_};
@@ -74,13 +75,13 @@ pub fn request(
         four,
         four,
     );
-    let y = settle(
+    let d = decide_by(
         s,
         moved,
         stored,
-        ticks,
-        rows,
-        threads,
+        &*ticks,
+        &*rows,
+        &*threads,
         bank,
         thread,
         row,
@@ -88,14 +89,23 @@ pub fn request(
         e.active,
         e.other,
     );
-    let d = y.decision;
-    let head = y.head;
     if !opens(d) {
         return Decided {
             answer: answer(d, 0),
-            head,
+            head: moved,
         };
     }
+    let head = activate(
+        s,
+        moved,
+        ticks,
+        rows,
+        threads,
+        bank,
+        thread,
+        row,
+        s.n <= e.active,
+    );
     let estimate = count(
         counters,
         bank as usize,

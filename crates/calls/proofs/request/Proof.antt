@@ -1,4 +1,4 @@
--- `request` turns the state to the tick, has the request settled by the estimates that it reads, and counts the row of an opened one.
+-- `request` turns the state to the tick, decides by the estimates that it reads, and makes the activation of an opened request.
 use mathlib.Core.Path.{_≡_, sym, ap, ap₂, _∙_}
 use mathlib.Core.Bool.{true, false}
 use native.Mathlib.Omega.{arith}
@@ -25,17 +25,20 @@ begun c = (c .before .before .before .before .before .before .before)
 abbrev turns : tie.After-look → tie.After-turn
 turns c = (c .before .before .before .before .before .before)
 
-abbrev looked : tie.After-settle → tie.After-look
+abbrev looked : tie.After-decide-by → tie.After-look
 looked c = (c .before .before .before .before .before .before)
 
-abbrev settles : tie.After-opens → tie.After-settle
-settles c = (c .before .before .before .before .before .before .before .before)
+abbrev decided : tie.Else1 → tie.After-decide-by
+decided c = (c .before .before)
 
-abbrev looks : tie.Else1 → tie.After-look
-looks c = looked (settles (c .before))
+abbrev branched : tie.After-struct-known2 → tie.Else1
+branched c = (c .before .before .before .before .before)
 
-abbrev branched : tie.After-answer2 → tie.Else1
-branched c = (c .before .before .before .before .before .before .before)
+abbrev activated : tie.After-struct-known3 → tie.After-activate
+activated c = (c .before .before .before .before .before .before .before .before)
+
+abbrev looks : tie.After-struct-known3 → tie.After-look
+looks c = looked (decided (branched (activated c .before)))
 
 -- ---- what is known on it
 
@@ -56,7 +59,7 @@ asked c =
       taken = taken limits01 (a .s) (a .seeds .now) st (a .tick) (a .bank) (a .thread) (c .pre .0);
     }
 
--- what has been read of it when it is settled
+-- what has been read of it when it is decided
 abbrev read : (c : tie.After-look) → Read (asked (begun (turns c)))
 read c =
     let t = turns c .turn in
@@ -81,10 +84,10 @@ read c =
     }
 
 -- whether it is opened
-waits : (c : tie.Then1) → opens (settles (c .before) .settle .result .decision) ≡ false
+waits : (c : tie.Then1) → opens (c .before .before .decide-by .result) ≡ false
 waits c = sym (c .before .opens .ensures) ∙ not-not (c .before .opens .result) true (c .if1 .taken)
 
-opened : (c : tie.Else1) → opens (settles (c .before) .settle .result .decision) ≡ true
+opened : (c : tie.Else1) → opens (decided c .decide-by .result) ≡ true
 opened c = sym (c .before .opens .ensures) ∙ not-not (c .before .opens .result) false (c .if1 .left)
 
 turn-requires : tie.Need-turn-requires
@@ -104,9 +107,9 @@ look-requires c κs =
     let four = c .before .places .ensures .1 in
     (k .setting .ranges .banks-high, k .long .counters, t .turn .ensures .4, k .bank-in, four, four)
 
-settle-requires : tie.Need-settle-requires
+decide-by-requires : tie.Need-decide-by-requires
 unfolding movedHead
-settle-requires c κs =
+decide-by-requires c κs =
     let at = (c .before .before .before .before .before) in
     let t = turns at in
     let start = begun t in
@@ -114,7 +117,6 @@ settle-requires c κs =
       ready-at q (read at),
       epoch-at q (read at),
       start .pre .1 ∙ ap (λ d. getD (d .bank) (start .args .bank) 0) (sym (t .turn .ensures .0)),
-      few-at q (read at),
     )
 
 opens-requires : tie.Need-opens-requires
@@ -137,18 +139,25 @@ same-length-4 c = search needs
 
 returns : tie.Need-returns
 returns c =
-    let here = settles (c .before .before) in
+    let here = (c .before .before .before) in
     let at = looked here in
-    let z = here .settle in
-    waits-at (asked (begun (turns at))) (read at) (z .result .decision) (z .ensures .0) (z .result .head) _ _ _ (z .ensures .1)
-    (c .answer .result) (waits (c .before)) (c .answer .ensures)
+    let d = here .decide-by in
+    waits-at (asked (begun (turns at))) (read at) (d .result) (d .ensures) (c .answer .result) (waits (c .before)) (c .answer .ensures)
+
+activate-requires : tie.Need-activate-requires
+activate-requires c κs =
+    let branch = branched c in
+    let here = decided branch in
+    let at = looked here in
+    let q = asked (begun (turns at)) in
+    (ready-at q (read at), few-at q (read at) (ap opens (sym (here .decide-by .ensures)) ∙ opened branch))
 
 cast-count : tie.Need-cast-count
-cast-count c = omega (arith, asked (begun (turns (looks (c .before .before)))) .taken .setting .ranges .n-high)
+cast-count c = omega (arith, asked (begun (turns (looks c))) .taken .setting .ranges .n-high)
 
 count-requires : tie.Need-count-requires
 count-requires c κs =
-    let at = looks (c .before .before) in
+    let at = looks c in
     let k = asked (begun (turns at)) .taken in
     let four = at .before .before .places .ensures .1 in
     (omega (arith, k .bank-in, k .setting .ranges .banks-high), omega (arith, k .bank-in, k .long .counters, at .look .kept .0), omega arith, four, four)
@@ -163,7 +172,9 @@ answer-requires-2 : tie.Need-answer-requires-2
 answer-requires-2 c κs = search needs
 
 same-length-5 : tie.Need-same-length-5
-same-length-5 c = search needs
+same-length-5 c =
+    let n = (c .before .before .before .before) in
+    n .count .kept .0 ∙ looks (n .before) .look .kept .0
 
 same-length-6 : tie.Need-same-length-6
 same-length-6 c = search needs
@@ -173,18 +184,20 @@ same-length-7 c = search needs
 
 same-length-8 : tie.Need-same-length-8
 same-length-8 c =
-    let here = settles (branched c .before) in
-    here .settle .kept .1 .1 .1 .1 .1 .0 ∙ turns (looked here) .turn .kept .1 .1 .0
+    let made = activated (c .before .before .before .before .before) in
+    made .activate .kept .1 .1 .1 .1 .0 ∙ turns (looked (decided (branched (made .before)))) .turn .kept .1 .1 .0
 
 returns-2 : tie.Need-returns-2
 returns-2 c =
-    let branch = branched c in
-    let here = settles (branch .before) in
+    let n = (c .before .before .before .before) in
+    let made = activated (n .before) in
+    let branch = branched (made .before) in
+    let here = decided branch in
     let at = looked here in
-    let z = here .settle in
-    let n = c .before .before .before .before .count in
-    opens-at (asked (begun (turns at))) (read at) (z .result .decision) (z .ensures .0) (z .result .head) _ _ _ (z .ensures .1)
-    (c .answer2 .result) (n .last .0) (n .result) (opened branch) (n .ensures .0) (n .ensures .1) (c .answer2 .ensures ∙ ap (answerOf (z .result .decision)) (c .before .openings-left .ensures))
+    let d = here .decide-by in
+    opens-at (asked (begun (turns at))) (read at) (d .result) (d .ensures) (made .activate .result) _ _ _ (made .activate .ensures)
+    (c .answer2 .result) (n .count .last .0) (n .count .result) (opened branch) (n .count .ensures .0) (n .count .ensures .1)
+    (c .answer2 .ensures ∙ ap (answerOf (d .result)) (c .before .openings-left .ensures))
 
 pub request-spec : {M : Type 1} → statement M
 request-spec =
@@ -193,7 +206,7 @@ request-spec =
     turn-requires
     places-requires
     look-requires
-    settle-requires
+    decide-by-requires
     opens-requires
     answer-requires
     same-length
@@ -201,6 +214,7 @@ request-spec =
     same-length-3
     same-length-4
     returns
+    activate-requires
     cast-count
     count-requires
     cast-estimate

@@ -1,4 +1,4 @@
--- The decision on a request from the estimates of its row, and what it leaves apart from the filters.
+-- The decision on a request from the estimates of its row.
 use mathlib.Core.Path.{_≡_}
 use mathlib.Core.List.{List}
 use mathlib.Core.Bool.{true, false}
@@ -20,11 +20,3 @@ use Rattle.decision.specs.Numbers.{decideFrom, viewOf}
 unfoldable pub decisionBy : Setting → ℕ → ℕ → Head → List ℕ → List ℕ → List ℕ → ℕ → ℕ → ℕ → Decision
 decisionBy s active other h ticks rows threads bank thread row =
     decideFrom s (h .last) (viewOf narrow s active other h ticks rows threads bank thread row)
-
--- What is left of head, history and thread counters: where the row is opened, those of an activation, else the same.
-pub record Settles (s : Setting) (active : ℕ) (h : Head) (ticks rows threads : List ℕ) (bank thread row : ℕ) (d : Decision)
-    (h′ : Head) (ticks′ rows′ threads′ : List ℕ) : Type 0 where
-  pub waits : opens d ≡ false → (h′ ≡ h) × (ticks′ ≡ ticks) × (rows′ ≡ rows) × (threads′ ≡ threads)
-  pub opened : opens d ≡ true
-      → (h′ ≡ activatedHead (historyLength s) h bank) × (ticks′ ≡ set ticks (h .next) (h .last + 1)) × (rows′ ≡ set rows (h .next) (rowWord bank row))
-      × (threads′ ≡ activatedThreads s threads bank thread (blacklisted (s .n) active))
