@@ -1,18 +1,10 @@
 -- The decision on a request from the estimates of its row.
-use mathlib.Core.Path.{_≡_}
 use mathlib.Core.List.{List}
-use mathlib.Core.Bool.{true, false}
-use Prim.Native.Nat.{ℕ, _+_}
-use lib.ListN.{set}
+use Prim.Native.Nat.{ℕ}
 use Rattle.head.specs.declared.Head.{Head}
-use Rattle.head.specs.Head.{activatedHead}
 use Rattle.rules.specs.declared.Setting.{Setting}
 use Rattle.rules.specs.declared.Decision.{Decision}
-use Rattle.rules.specs.Setting.{historyLength}
-use Rattle.rules.specs.State.{rowWord}
-use Rattle.rules.specs.Filter.{blacklisted}
 use Rattle.rules.specs.Policy.{narrow}
-use Rattle.rules.specs.Decision.{opens, activatedThreads}
 use Rattle.decision.specs.Numbers.{decideFrom, viewOf}
 
 -- The decision at the last tick on a row with these estimates in the active and in the other filter. The limits of a width play no part in it, so
