@@ -1,6 +1,7 @@
 /*
- * Which delays tD a setting of the throttle is accepted with, at each width of
- * the filter counters. The setting is that of throttle.h. Link with libplan.a
+ * For planners: which delays tD a setting of the throttle is accepted with, at
+ * each width of the filter counters, and how often a row can be activated in a
+ * span of ticks. The setting is that of throttle.h. Link with libplan.a
  * (x86-64), alone or beside libthrottle.a; it needs nothing beyond the C
  * library.
  */
@@ -15,7 +16,7 @@
 extern "C" {
 #endif
 
-enum { THROTTLE_DELAYS_OUT = 2 };
+enum { THROTTLE_DELAYS_OUT = 2, THROTTLE_SPAN_OUT = 1 };
 
 /*
  * For the calls with 16-bit counters. The setting as ten words (throttle_words
@@ -47,6 +48,25 @@ uint32_t throttle_delays(const uint64_t setting[THROTTLE_LEAST THROTTLE_SETTING_
 THROTTLE_CHECKED
 uint32_t throttle_wide_delays(const uint64_t setting[THROTTLE_LEAST THROTTLE_SETTING_WORDS],
                               uint64_t out[THROTTLE_LEAST THROTTLE_DELAYS_OUT]);
+
+/*
+ * The most activations of a row in any x successive ticks, under this setting:
+ * the setting as ten words, its delay included; the seeds play no part. With
+ * E = W/2, m = ceil((x - 1)/E) + 1 and F = N * ceil(m/2), it is
+ *   F + 1 + floor((x - 1 - F * tRC)/tD)   if x - 1 >= F * tRC
+ *   1 + floor((x - 1)/tRC)                otherwise
+ * No list of calls after a set-up opens a row more often, at either width, with
+ * any seeds, refused calls and a change-over included; that some list reaches
+ * it is not claimed. With x = W it is B.
+ *
+ * Returns 0 and writes the bound to out[0]. Otherwise out is left as it was, and
+ * the number of a refusal is returned: 1 where x is 0; else the setting's own,
+ * 1 to 5 or 16, at the limits of the calls with 32-bit counters. What the calls
+ * with 16-bit counters accept, these accept too.
+ */
+THROTTLE_CHECKED
+uint32_t throttle_span_bound(const uint64_t setting[THROTTLE_LEAST THROTTLE_SETTING_WORDS], uint64_t x,
+                             uint64_t out[THROTTLE_LEAST THROTTLE_SPAN_OUT]);
 
 #ifdef __cplusplus
 }
