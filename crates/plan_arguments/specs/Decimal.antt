@@ -17,14 +17,14 @@ wrong = record { ok = false; value = 0 }
 abbrev pub followed : ℕ → ℕ → ℕ
 followed v code = 10 * v + (code - 48)
 
--- The digits of the n bytes from place i on, after the number v. It is wrong where a byte is no digit or the number is above 4,294,967,295.
-unfoldable pub digitsFrom : ℕ → List ℕ → ℕ → ℕ → Number
-digitsFrom zero word i v = value v
-digitsFrom (suc n) word i v =
+-- The digits of the n bytes from place i on, after the number v. It is wrong where a byte is no digit or the number is above `most`.
+unfoldable pub digitsFrom : ℕ → ℕ → List ℕ → ℕ → ℕ → Number
+digitsFrom most zero word i v = value v
+digitsFrom most (suc n) word i v =
     cond (between 48 57 (getD word i 0))
-    (cond (ltb 4294967295 (followed v (getD word i 0))) wrong (digitsFrom n word (suc i) (followed v (getD word i 0))))
+    (cond (ltb most (followed v (getD word i 0))) wrong (digitsFrom most n word (suc i) (followed v (getD word i 0))))
     wrong
 
--- a word of one decimal digit or more
-unfoldable pub numberOf : List ℕ → Number
-numberOf word = cond (eqb (length word) 0) wrong (digitsFrom (length word) word 0 0)
+-- a word of one decimal digit or more, of a number up to `most`
+unfoldable pub numberOf : ℕ → List ℕ → Number
+numberOf most word = cond (eqb (length word) 0) wrong (digitsFrom most (length word) word 0 0)

@@ -17,6 +17,11 @@ pub fn report_count() {
     complain(b"four numbers are needed, or five\n");
 }
 
+pub fn report_span_count() {
+    complain_by_name();
+    complain(b"six numbers and one X or more are needed\n");
+}
+
 // The name of argument i.
 fn complain_of(i: usize) {
     complain_by_name();
@@ -25,17 +30,22 @@ fn complain_of(i: usize) {
         2 => complain(b"TRC"),
         3 => complain(b"TFAW"),
         4 => complain(b"L"),
-        _ => complain(b"N"),
+        5 => complain(b"N"),
+        6 => complain(b"TD"),
+        _ => complain(b"X"),
     }
 }
 
-pub fn report_word(i: usize) {
+// The word of argument i is no number up to `most`.
+pub fn report_word(i: usize, most: u64) {
     complain_of(i);
-    complain(b" is not a whole decimal number up to 4294967295\n");
+    complain(b" is not a whole decimal number up to ");
+    io::print_decimal(libc::STDERR_FILENO, most);
+    complain(b"\n");
 }
 
 // x is from 1 to high; where it is not, that is reported of argument i.
-fn is_within(i: usize, x: u64, high: u64) -> bool {
+pub fn is_within(i: usize, x: u64, high: u64) -> bool {
     if x < 1 || x > high {
         complain_of(i);
         complain(b" must be from 1 to ");

@@ -1,6 +1,6 @@
 // The command line of the program plan_settings: its words as numbers, its options, and messages on what is wrong with them.
 ghost use mathlib.Core.Path.{_≡_};
-ghost use Prim.Native.Nat.{_+_, _≤_};
+ghost use Prim.Native.Nat.{_+_, _^_, _≤_};
 ghost use Rattle.plan_arguments.specs.Decimal.{numberOf, wrong as Decimal·wrong};
 ghost use Rattle.plan_arguments.specs.Options.{wordsOf};
 
@@ -20,6 +20,8 @@ pub struct Options {
     pub wide: bool,
     // The small card is meant.
     pub small: bool,
+    // Spans are asked for, and not delays.
+    pub spans: bool,
 }
 
 fn wrong() -> Number
@@ -37,9 +39,10 @@ fn wide(x: u8) -> u64
     x as u64
 }
 
-// The number that the word stands for.
-fn read_word(word: &[u8]) -> Number
-    ensures { λ r. ⌜ r ≡ numberOf (now (word .entry)) ⌝ }
+// The number up to `most` that the word stands for.
+fn read_word(word: &[u8], most: u64) -> Number
+    requires { ⌜ most ≤ 2 ^ 60 ⌝ }
+    ensures { λ r. ⌜ r ≡ numberOf most (now (word .entry)) ⌝ }
 {
     if word.len() == 0 {
         return wrong();
@@ -55,7 +58,7 @@ fn read_word(word: &[u8]) -> Number
             return wrong();
         }
         v = 10 * v + (code - 48);
-        if v > 4294967295 {
+        if v > most {
             return wrong();
         }
         i += 1;
@@ -63,14 +66,16 @@ fn read_word(word: &[u8]) -> Number
     Number { ok: true, value: v }
 }
 
-// The number of argument i. A word of more than 32 bytes, or none at that place, is no number.
-pub fn argument(i: usize) -> Number {
+// The number up to `most` of argument i. A word of more than 32 bytes, or none at that place, is no number.
+pub fn argument(i: usize, most: u64) -> Number
+    requires { ⌜ most ≤ 2 ^ 60 ⌝ }
+{
     let mut word = [0u8; 32];
     let n = os::arg(i, &mut word);
     if os::errno() != 0 {
         return wrong();
     }
-    read_word(&word[..n])
+    read_word(&word[..n], most)
 }
 
 // Whether argument i is this word. One of more than 8 bytes is none of the options.
@@ -90,17 +95,20 @@ fn words(given: bool) -> usize
     if given { 1 } else { 0 }
 }
 
-// The options of the command line, --wide before --small. It rules out a word that is taken for an option and sets none.
+// The options of the command line, --wide before --small before --spans. It rules out a word that is taken for an option and sets none.
 pub fn read_options() -> Options
-    ensures { λ r. ⌜ (r .words ≡ wordsOf (r .wide) + wordsOf (r .small)) × (r .words ≤ 2) ⌝ }
+    ensures { λ r. ⌜ (r .words ≡ wordsOf (r .wide) + wordsOf (r .small) + wordsOf (r .spans)) × (r .words ≤ 3) ⌝ }
 {
     let wide = is_word(1, b"--wide");
     let first = words(wide);
     let small = is_word(1 + first, b"--small");
-    let second = words(small);
+    let second = first + words(small);
+    let spans = is_word(1 + second, b"--spans");
+    let third = second + words(spans);
     Options {
-        words: first + second,
+        words: third,
         wide,
         small,
+        spans,
     }
 }

@@ -1,14 +1,13 @@
 // The table that the program plan_settings prints: a line for each threshold, and the lines below it. What it prints of a threshold is
-// what the proved functions of the crate `plan` answer, at a width of the counters.
-use plan::Width;
+// what the proved functions of the crates `plan`, `plan_interval` and `plan_costs` answer, at a width of the counters.
+use plan_costs::Width;
+use plan_text::print;
+use plan_text::print_cell;
+use plan_text::print_nanoseconds;
+use plan_text::print_number;
 ghost use Prim.Native.Nat.{_^_, _≤_};
-ghost use Rattle.plan.specs.Plan.{Served, ServedWidth};
-use crate::text::print;
-use crate::text::print_cell;
-use crate::text::print_nanoseconds;
-use crate::text::print_number;
-
-mod text;
+ghost use Rattle.plan_interval.specs.Served.{Served};
+ghost use Rattle.plan_costs.specs.Costs.{ServedWidth};
 
 fn print_head(width: Width, s: rules::Setting) {
     print(b"W ");
@@ -72,10 +71,10 @@ fn print_line(width: Width, s: rules::Setting)
     requires { ⌜ ServedWidth width ⌝ }
 {
     print_cell(s.n);
-    let p = plan::delays(width.limits, s);
+    let p = plan_interval::delays(width.limits, s);
     match p {
         plan_delays::Plan::Between { least, greatest } => {
-            let c = plan::costs(width, s, least);
+            let c = plan_costs::costs(width, s, least);
             print_cell(least);
             print_nanoseconds(least);
             print_cell(c.history);
@@ -94,7 +93,7 @@ fn print_line(width: Width, s: rules::Setting)
 fn print_threshold(width: Width, s: rules::Setting, n: u64)
     requires { ⌜ ServedWidth width ⌝ }
 {
-    print_line(width, plan::with_threshold(s, n));
+    print_line(width, plan_interval::with_threshold(s, n));
 }
 
 fn print_trade() {

@@ -6,8 +6,9 @@ use Rattle.rules.specs.declared.Setting.{Setting}
 use Rattle.rules.specs.Setting.{settingOf}
 use Rattle.plan_delays.specs.declared.Plan.{Plan}
 use Rattle.plan_delays.specs.Answer.{delaysOf}
-use Rattle.plan.specs.declared.Width.{Width}
-use Rattle.plan.specs.Plan.{widthOf, leaves}
+use Rattle.plan_costs.specs.declared.Width.{Width}
+use Rattle.plan_costs.specs.Costs.{widthOf}
+use Rattle.plan.specs.Plan.{leaves}
 use borrow.Author.Needs.{needs}
 use Rattle.plan.proofs.write_delays.Statement.{statement}
 use Rattle.plan.proofs.write_delays.Tie as tie

@@ -11,10 +11,10 @@ use Rattle.plan_arguments.proofs.read_word.Statement.{statement}
 use Rattle.plan_arguments.proofs.read_word.Tie as tie
 
 abbrev Inv-loop : tie.InvT-loop
-Inv-loop word v₀ i₀ v i = (i ≤ length word) × (v ≤ 4294967295) × (digitsFrom (length word - i) word i v ≡ numberOf word)
+Inv-loop word most v₀ i₀ v i = (i ≤ length word) × (v ≤ most) × (digitsFrom most (length word - i) word i v ≡ numberOf most word)
 
 abbrev μ-loop : tie.MeasureT-loop
-μ-loop word v₀ i₀ v i = length word - i
+μ-loop word most v₀ i₀ v i = length word - i
 
 wrong-requires : tie.Need-wrong-requires Inv-loop μ-loop
 wrong-requires c κs = search needs
@@ -24,7 +24,7 @@ unfolding numberOf
 returns c = c .wrong .ensures ∙ simp (eq-eqb _ _ (c .before .if1 .taken))
 
 loop-holds : tie.Need-loop-holds Inv-loop μ-loop
-loop-holds c = (omega arith, omega arith, at-start (c .before .before .args .word .now) (c .if1 .left))
+loop-holds c = (omega arith, omega arith, at-start (c .before .before .args .most) (c .before .before .args .word .now) (c .if1 .left))
 
 shared-slice-read-wide : tie.Need-shared-slice-read-wide Inv-loop μ-loop
 shared-slice-read-wide c = search needs
@@ -38,7 +38,7 @@ wrong-requires-2 c κs = search needs
 returns-2 : tie.Need-returns-2 Inv-loop μ-loop
 returns-2 c =
     let l = c .before .before .before .before .before .loop in
-    c .wrong2 .ensures ∙ sym (no-digit-low (c .before .before .before .before .before .before .before .before .args .word .now) (l .i) (l .v) (c .before .before .wide .result) (c .before .before .before .before .loop-test .taken) (c .before .before .wide .ensures) (c .before .if2 .taken)) ∙ l .inv .2
+    c .wrong2 .ensures ∙ sym (no-digit-low (c .before .before .before .before .before .before .before .before .args .most) (c .before .before .before .before .before .before .before .before .args .word .now) (l .i) (l .v) (c .before .before .wide .result) (c .before .before .before .before .loop-test .taken) (c .before .before .wide .ensures) (c .before .if2 .taken)) ∙ l .inv .2
 
 wrong-requires-3 : tie.Need-wrong-requires-3 Inv-loop μ-loop
 wrong-requires-3 c κs = search needs
@@ -46,7 +46,7 @@ wrong-requires-3 c κs = search needs
 returns-3 : tie.Need-returns-3 Inv-loop μ-loop
 returns-3 c =
     let l = c .before .before .before .before .before .before .loop in
-    c .wrong3 .ensures ∙ sym (no-digit-high (c .before .before .before .before .before .before .before .before .before .args .word .now) (l .i) (l .v) (c .before .before .before .wide .result) (c .before .before .before .before .before .loop-test .taken) (c .before .before .before .wide .ensures) (c .before .before .if2 .left) (c .before .if3 .taken)) ∙ l .inv .2
+    c .wrong3 .ensures ∙ sym (no-digit-high (c .before .before .before .before .before .before .before .before .before .args .most) (c .before .before .before .before .before .before .before .before .before .args .word .now) (l .i) (l .v) (c .before .before .before .wide .result) (c .before .before .before .before .before .loop-test .taken) (c .before .before .before .wide .ensures) (c .before .before .if2 .left) (c .before .if3 .taken)) ∙ l .inv .2
 
 mul-v : tie.Need-mul-v Inv-loop μ-loop
 mul-v c = search needs
@@ -60,7 +60,7 @@ wrong-requires-4 c κs = search needs
 returns-4 : tie.Need-returns-4 Inv-loop μ-loop
 returns-4 c =
     let l = c .before .before .before .before .before .before .before .loop in
-    c .wrong4 .ensures ∙ sym (too-large (c .before .before .before .before .before .before .before .before .before .before .args .word .now) (l .i) (l .v) (c .before .before .before .before .wide .result) (c .before .before .before .before .before .before .loop-test .taken) (c .before .before .before .before .wide .ensures) (c .before .before .before .if2 .left) (c .before .before .if3 .left) (c .before .if4 .taken)) ∙ l .inv .2
+    c .wrong4 .ensures ∙ sym (too-large (c .before .before .before .before .before .before .before .before .before .before .args .most) (c .before .before .before .before .before .before .before .before .before .before .args .word .now) (l .i) (l .v) (c .before .before .before .before .wide .result) (c .before .before .before .before .before .before .loop-test .taken) (c .before .before .before .before .wide .ensures) (c .before .before .before .if2 .left) (c .before .before .if3 .left) (c .before .if4 .taken)) ∙ l .inv .2
 
 add-i : tie.Need-add-i Inv-loop μ-loop
 add-i c = search needs
@@ -71,12 +71,12 @@ loop-less c = search needs
 loop-again : tie.Need-loop-again Inv-loop μ-loop
 loop-again c =
     let l = c .before .before .before .before .before .before .loop in
-    (omega arith, omega arith, sym (one-more (c .before .before .before .before .before .before .before .before .before .args .word .now) (l .i) (l .v) (c .before .before .before .wide .result) (c .before .before .before .before .before .loop-test .taken) (c .before .before .before .wide .ensures) (c .before .before .if2 .left) (c .before .if3 .left) (c .if4 .left)) ∙ l .inv .2)
+    (omega arith, omega arith, sym (one-more (c .before .before .before .before .before .before .before .before .before .args .most) (c .before .before .before .before .before .before .before .before .before .args .word .now) (l .i) (l .v) (c .before .before .before .wide .result) (c .before .before .before .before .before .loop-test .taken) (c .before .before .before .wide .ensures) (c .before .before .if2 .left) (c .before .if3 .left) (c .if4 .left)) ∙ l .inv .2)
 
 returns-5 : tie.Need-returns-5 Inv-loop μ-loop
 returns-5 c =
     let l = c .before .loop in
-    sym (all-read (c .before .before .before .before .args .word .now) (l .i) (l .v) (search needs)) ∙ l .inv .2
+    sym (all-read (c .before .before .before .before .args .most) (c .before .before .before .before .args .word .now) (l .i) (l .v) (search needs)) ∙ l .inv .2
 
 pub read-word-spec : {M : Type 1} → statement M
 read-word-spec =

@@ -1,0 +1,100 @@
+// The table that the program plan_settings prints with --spans: a line for each X of the command line. What it prints is what the proved function of the
+// crate `plan_spans` answers.
+use plan_spans::Span;
+use plan_text::print;
+use plan_text::print_cell;
+use plan_text::print_nanoseconds;
+use plan_text::print_number;
+ghost use Prim.Native.Nat.{_^_, _≤_};
+
+fn print_head(s: rules::Setting) {
+    print(b"W ");
+    print_number(s.w);
+    print(b", tRC ");
+    print_number(s.trc);
+    print(b", tFAW ");
+    print_number(s.tfaw);
+    print(b", N ");
+    print_number(s.n);
+    print(b", tD ");
+    print_number(s.td);
+    print(b", L ");
+    print_number(s.l);
+    if s.profile == 1 {
+        print(b", small profile");
+    }
+    print(b" (ticks; 4 ticks are a nanosecond)\n");
+}
+
+fn print_places(limit: u64) {
+    print(b"tD needs a history of more than ");
+    print_number(limit);
+    print(b" places\n");
+}
+
+// The setting has no more banks than the profile, so that only its history can be above it.
+fn print_profile_limit(mark: u64) {
+    let card = setting::profile(mark);
+    print_places(card.history);
+}
+
+fn print_history_limit() {
+    let limits = setting::wide_limits();
+    print_places(limits.history);
+}
+
+// Why the setting is refused, by the number of the refusal.
+fn print_refusal(refusal: u32, mark: u64) {
+    print(b"The setting is refused: refusal ");
+    print_number(refusal as u64);
+    print(b": ");
+    match refusal {
+        1 => print(b"a number is out of its range\n"),
+        2 => print(b"W - 1 is below 2 x N x tRC, two bursts of N do not fit in the window\n"),
+        3 => print(b"tD is below tRC or above W / 2\n"),
+        4 => print_history_limit(),
+        16 => print_profile_limit(mark),
+        _ => print(b"B is above L\n"),
+    }
+}
+
+// The line of a span of x ticks.
+fn print_line(s: rules::Setting, x: u64) {
+    let answer = plan_spans::span(s, x);
+    match answer {
+        Span::Most { times } => {
+            print(b" ");
+            print_cell(x);
+            print_nanoseconds(x);
+            print(b" ");
+            print_cell(times);
+            print(b"\n");
+        }
+        Span::Refused { refusal } => print_refusal(refusal, s.profile),
+    }
+}
+
+// The lines of the X from argument `first` on, which are numbers up to `most`.
+fn print_lines(s: rules::Setting, first: usize, count: usize, most: u64)
+    requires { ⌜ most ≤ 2 ^ 60 ⌝ }
+{
+    print(b"            X    nanoseconds      at most\n");
+    let mut i = first;
+    while i < count {
+        let x = plan_arguments::argument(i, most);
+        print_line(s, x.value);
+        i += 1;
+    }
+}
+
+// The table for the X from argument `first` to the last of `count`, or the refusal of the setting.
+pub fn print_spans(s: rules::Setting, first: usize, count: usize, most: u64)
+    requires { ⌜ most ≤ 2 ^ 60 ⌝ }
+{
+    print_head(s);
+    let answer = plan_spans::span(s, 1);
+    match answer {
+        Span::Most { times: _ } => print_lines(s, first, count, most),
+        Span::Refused { refusal } => print_refusal(refusal, s.profile),
+    }
+}
