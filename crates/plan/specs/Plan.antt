@@ -9,8 +9,8 @@ use Rattle.plan_delays.specs.declared.Plan.{Plan}
 use Rattle.plan_delays.specs.declared.Plan.the-variants.{Between, Nothing}
 use Rattle.plan_delays.specs.Delays.{withThreshold}
 use Rattle.plan_delays.specs.Answer.{delaysOf}
-use Rattle.plan_spans.specs.declared.Span.{Span}
-use Rattle.plan_spans.specs.declared.Span.the-variants.{Most, Refused}
+use Rattle.spans.specs.declared.Span.{Span}
+use Rattle.spans.specs.declared.Span.the-variants.{Most, Refused}
 
 -- ---- the last threshold
 

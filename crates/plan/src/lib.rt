@@ -1,7 +1,7 @@
 // The planner's calls for C: which delays tD a setting is accepted with, at each width of the filter counters, and how often a row can be activated
 // in a span of ticks; and the last threshold that has a delay. The delays are those of the crate `plan_interval`, the bound that of `plan_spans`.
 use plan_delays::Plan;
-use plan_spans::Span;
+use spans::Span;
 ghost use mathlib.Core.Path.{_≡_};
 ghost use Rattle.rules.specs.Setting.{settingOf};
 ghost use Rattle.rules.specs.Policy.{limits01, limits02};
@@ -9,7 +9,7 @@ ghost use Rattle.plan_delays.specs.Delays.{withThreshold};
 ghost use Rattle.plan_delays.specs.Answer.{delaysOf};
 ghost use Rattle.plan_interval.specs.Served.{Served};
 ghost use Rattle.plan_costs.specs.Costs.{widthOf};
-ghost use Rattle.plan_spans.specs.Spans.{spanOf};
+ghost use Rattle.spans.specs.Spans.{spanOf};
 ghost use Rattle.plan.specs.Plan.{hasDelay, Last, left, leaves, leavesSpan};
 
 // Some delay is accepted with this threshold.

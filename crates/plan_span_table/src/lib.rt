@@ -1,6 +1,6 @@
 // The table that the program plan_settings prints with --spans: a line for each X of the command line. What it prints is what the proved function of the
 // crate `plan_spans` answers.
-use plan_spans::Span;
+use spans::Span;
 use plan_text::print;
 use plan_text::print_cell;
 use plan_text::print_nanoseconds;

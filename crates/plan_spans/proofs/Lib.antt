@@ -1,6 +1,1 @@
-pub mod Most
-pub mod Free
-pub mod Windows
-pub mod Answer
-pub mod Samples
-pub mod Theorems
+pub mod Quotient

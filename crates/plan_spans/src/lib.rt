@@ -1,18 +1,11 @@
 // Spans of every length (document 02, m): the most activations of a row in x successive ticks under a setting, or the refusal that it gets.
-// The definitions that the contracts cite are in specs/ and in the crate `rules`, with the statements of what they mean.
+// The definitions that the contracts cite are in the crates `spans` and `rules`, with the statements of what they mean.
+use spans::Span;
 ghost use mathlib.Core.Path.{_≡_};
 ghost use Prim.Native.Nat.{_≤_};
 ghost use Rattle.rules.specs.Cells.{ceilDiv};
 ghost use Rattle.rules.specs.Claims.{freeMost, spanBound};
-ghost use Rattle.plan_spans.specs.Spans.{Room, spanOf};
-
-// The answer about a span.
-pub enum Span {
-    // No row is activated more often than so many times.
-    Most { times: u64 },
-    // The number of the refusal.
-    Refused { refusal: u32 },
-}
+ghost use Rattle.spans.specs.Spans.{Room, spanOf};
 
 // a/b, rounded up.
 fn ceil_div(a: u64, b: u64) -> u64

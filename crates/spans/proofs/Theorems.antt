@@ -3,8 +3,8 @@ use Rattle.rules.specs.Policy.{narrow}
 use Rattle.rules.proofs.Theorems.{theorems as rules}
 use Rattle.widths.proofs.Theorems.{theorems as widths}
 use Rattle.interface.proofs.Theorems.{theorems as interface}
-use Rattle.plan_spans.specs.Claims.{Theorems}
-use Rattle.plan_spans.proofs.Answer.{never-more, answered, seeds-play-no-part, never-falls, one-tick, windows, one-window}
+use Rattle.spans.specs.Claims.{Theorems}
+use Rattle.spans.proofs.Answer.{never-more, answered, seeds-play-no-part, never-falls, one-tick, windows, one-window}
 
 pub theorems : Theorems
 theorems =

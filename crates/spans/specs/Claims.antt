@@ -12,8 +12,8 @@ use Rattle.rules.specs.Calls.{timesActivated}
 use Rattle.rules.specs.Claims.{spanBound, Spans}
 use Rattle.widths.specs.Claims.{SpansOver}
 use Rattle.interface.specs.Claims.{Lent, Width, rulesOf, leftBySetup, lentAfter, ListFrom, openingsFrom, SpansOverForC}
-use Rattle.plan_spans.specs.declared.Span.the-variants.{Most}
-use Rattle.plan_spans.specs.Spans.{spanRefusal, spanOf}
+use Rattle.spans.specs.declared.Span.the-variants.{Most}
+use Rattle.spans.specs.Spans.{spanRefusal, spanOf}
 
 -- ---- the answer
 

@@ -1,6 +1,6 @@
 -- The bound over plain numbers: f activations trc apart, then one every td ticks, in y ticks after the first. It grows with f and with y.
 use mathlib.Core.Path.{_≡_, sym, subst}
-use mathlib.Core.Bool.{cond}
+use mathlib.Core.Bool.{Bool, cond}
 use Prim.Native.Nat.{ℕ, _+_, _-_, _*_, _/_, _≤_, _<_}
 use native.Mathlib.Omega.{arith}
 use native.Mathlib.Decide.{decLe}
@@ -16,8 +16,13 @@ most f trc td y = cond (leb (f * trc) y) (f + 1 + (y - f * trc) / td) (1 + y / t
 pub by-room : (P : ℕ → Type 0) (f trc td y : ℕ) → (f * trc ≤ y → P (f + 1 + (y - f * trc) / td)) → (y < f * trc → P (1 + y / trc)) → P (most f trc td y)
 by-room P f trc td y a b = go (decLe (f * trc) y)
   where
+    room : Bool
     room = leb (f * trc) y
+
+    long : ℕ
     long = f + 1 + (y - f * trc) / td
+
+    short : ℕ
     short = 1 + y / trc
 
     go : Dec (f * trc ≤ y) → P (cond room long short)

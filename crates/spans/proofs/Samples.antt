@@ -1,8 +1,12 @@
 -- The table of X against the bound, computed.
 use mathlib.Core.Path.{refl}
-use Rattle.plan_spans.specs.Samples.{Cases}
+use Rattle.rules.specs.Setting.{settingOf, historyLength, rowBound, fieldsInRange, seedsInRange, settingRefusal}
+use Rattle.rules.specs.Claims.{spanBound}
+use Rattle.spans.specs.Spans.{spanRefusal, spanOf}
+use Rattle.spans.specs.Samples.{Cases}
 
 pub cases : Cases
+unfolding settingOf historyLength rowBound fieldsInRange seedsInRange settingRefusal spanBound spanRefusal spanOf
 cases =
     record {
       s1 = refl;

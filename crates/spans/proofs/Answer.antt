@@ -17,15 +17,15 @@ use Rattle.rules.proofs.Accept.{accepted, epoch-long}
 use Rattle.widths.proofs.Theorems.{theorems as widths}
 use Rattle.interface.specs.Claims.{openingsFrom}
 use Rattle.interface.proofs.Theorems.{theorems as interface}
-use Rattle.plan_delays.specs.Delays.{someSeeds}
+use Rattle.plan_delays.specs.Delays.{someSeeds, delayRefusal}
 use Rattle.plan_delays.proofs.Theorems.{theorems as delays}
-use Rattle.plan_spans.specs.declared.Span.{Span}
-use Rattle.plan_spans.specs.declared.Span.the-variants.{Most, Refused}
-use Rattle.plan_spans.specs.Spans.{spanRefusal, spanOf, Room}
-use Rattle.plan_spans.specs.Claims.{NeverMore, Answered, SeedsPlayNoPart, NeverFalls, OneATick, InWindows, InOneWindow}
-use Rattle.plan_spans.proofs.Most.{more-ticks, more-free}
-use Rattle.plan_spans.proofs.Free.{free-grows, one-a-tick}
-use Rattle.plan_spans.proofs.Windows.{in-windows, in-one-window}
+use Rattle.spans.specs.declared.Span.{Span}
+use Rattle.spans.specs.declared.Span.the-variants.{Most, Refused}
+use Rattle.spans.specs.Spans.{spanRefusal, spanOf, Room}
+use Rattle.spans.specs.Claims.{NeverMore, Answered, SeedsPlayNoPart, NeverFalls, OneATick, InWindows, InOneWindow}
+use Rattle.spans.proofs.Most.{more-ticks, more-free}
+use Rattle.spans.proofs.Free.{free-grows, one-a-tick}
+use Rattle.spans.proofs.Windows.{in-windows, in-one-window}
 
 -- what the code uses of an accepted setting
 pub room-of : (s : Setting) (seeds : List ℕ) → settingRefusal limits02 s seeds ≡ none → Room s
@@ -44,6 +44,7 @@ unfolding spanRefusal
 refusal-from s x h = rw (ne-eqb x 0 (omega arith))
 
 pub seeds-play-no-part : SeedsPlayNoPart
+unfolding delayRefusal
 seeds-play-no-part s seeds x ok h = refusal-from s x h ∙ sym (delays .seedsPlayNoPart limits02 s (s .td) seeds ok)
 
 -- ---- the answer

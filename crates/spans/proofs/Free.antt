@@ -8,8 +8,8 @@ use Rattle.rules.specs.Cells.{ceilDiv}
 use Rattle.rules.specs.Setting.{epochLength}
 use Rattle.rules.specs.Claims.{freeMost, spanBound}
 use Rattle.plan_delays.proofs.Numbers.{ceil-grows}
-use Rattle.plan_spans.specs.Spans.{Room}
-use Rattle.plan_spans.proofs.Most.{one-each}
+use Rattle.spans.specs.Spans.{Room}
+use Rattle.spans.proofs.Most.{one-each}
 
 pub free-grows : (s : Setting) → 1 ≤ epochLength s → (x y : ℕ) → x ≤ y → freeMost s x ≤ freeMost s y
 free-grows s e1 x y h =

@@ -5,8 +5,8 @@ use Prim.Native.Nat.{_+_, _-_, _^_}
 use Rattle.rules.specs.declared.Setting.{Setting}
 use Rattle.rules.specs.Samples.{S, settingS, tableOne}
 use Rattle.widths.specs.Claims.{greatestN}
-use Rattle.plan_spans.specs.declared.Span.the-variants.{Most, Refused}
-use Rattle.plan_spans.specs.Spans.{spanOf}
+use Rattle.spans.specs.declared.Span.the-variants.{Most, Refused}
+use Rattle.spans.specs.Spans.{spanOf}
 
 -- the accepted setting of Table 1
 abbrev pub accepted : Setting

@@ -8,8 +8,8 @@ use Rattle.rules.specs.Setting.{settingRefusal}
 use Rattle.rules.specs.Policy.{limits02}
 use Rattle.rules.specs.Claims.{spanBound}
 use Rattle.plan_delays.specs.Delays.{someSeeds}
-use Rattle.plan_spans.specs.declared.Span.{Span}
-use Rattle.plan_spans.specs.declared.Span.the-variants.{Most, Refused}
+use Rattle.spans.specs.declared.Span.{Span}
+use Rattle.spans.specs.declared.Span.the-variants.{Most, Refused}
 
 -- "for a span of X successive ticks, X at least 1": 1 where X is 0, which is the first refusal; else the setting's, at the limits of the calls with
 -- 32-bit counters. The seeds play no part (`SeedsPlayNoPart`).
