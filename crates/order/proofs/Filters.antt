@@ -1,9 +1,9 @@
 -- The rules' counters are filters: an opening counts in the two filters of its bank and in no other, and the estimate is the filter's own.
-use mathlib.Core.Path.{_≡_, refl, ap, ap₂, _∙_}
+use mathlib.Core.Path.{_≡_, refl, sym, ap, ap₂, _∙_}
 use mathlib.Core.Logic.{_≢_}
 use mathlib.Core.List.{List, [], _∷_, map}
 use mathlib.Core.Bool.{false, _||_, cond}
-use Prim.Native.Nat.{ℕ, zero, suc, _+_, _*_, _≤_, _<_}
+use Prim.Native.Nat.{ℕ, zero, suc, _+_, _*_, _≤_, _<_, min}
 use native.Mathlib.Omega.{arith}
 use native.Mathlib.Nat.{zero-add, add-zero}
 use native.Mathlib.Decide.{ℕ-discrete}
@@ -13,7 +13,7 @@ use borrow.Author.Tests.{eq-eqb, ne-eqb}
 use Rattle.head.specs.Head.{cells}
 use Rattle.rules.specs.Cells.{member, mapFrom, mapCells, All}
 use Rattle.rules.specs.State.{counterCell}
-use Rattle.rules.specs.Filter.{estimate, raised, named, counted}
+use Rattle.rules.specs.Filter.{counterAt, estimate, raised, named, counted}
 use Rattle.rules.proofs.Tests.{or-false, holds, same-test}
 use Rattle.rules.proofs.Cells.{getD-kept, map-same, getD-cells}
 use Rattle.rules.proofs.Filter.{counted-cell}
@@ -33,10 +33,12 @@ cells-mapped g old new i k (suc n) h =
     next : (m j : ℕ) → suc m + j ≡ m + suc j
     next m j = omega arith
 
+-- the cell j places after a filter's first
 cell-at : (bank f j : ℕ) → counterCell bank f 0 + j ≡ counterCell bank f j
 cell-at bank f j = omega arith
 
-pub filter-mapped : (g : ℕ → ℕ → ℕ) (old new : List ℕ) (bank f : ℕ)
+-- counters that are others, changed by place and content within a filter
+filter-mapped : (g : ℕ → ℕ → ℕ) (old new : List ℕ) (bank f : ℕ)
     → ((j : ℕ) → j < 1024 → getD new (counterCell bank f j) 0 ≡ g j (getD old (counterCell bank f j) 0))
     → filterOf new bank f ≡ mapCells g (filterOf old bank f)
 unfolding filterOf
@@ -55,12 +57,10 @@ filter-cell counters bank f j h = getD-cells counters (counterCell bank f 0) 102
 pub estimate-of-filter : EstimateOfFilter
 unfolding estimate leastAt
 estimate-of-filter counters bank f at w =
-    rw (
-      filter-cell counters bank f (getD at 0 0) (w .first),
-      filter-cell counters bank f (getD at 1 0) (w .second),
-      filter-cell counters bank f (getD at 2 0) (w .third),
-      filter-cell counters bank f (getD at 3 0) (w .fourth),
-    )
+    ap₂ min (ap₂ min (here 0 (w .first)) (here 1 (w .second))) (ap₂ min (here 2 (w .third)) (here 3 (w .fourth)))
+  where
+    here : (k : ℕ) → getD at k 0 < 1024 → counterAt counters bank f at k ≡ getD (filterOf counters bank f) (getD at k 0) 0
+    here k h = sym (filter-cell counters bank f (getD at k 0) h)
 
 -- ---- the counters that an opening names
 

@@ -4,8 +4,7 @@ use mathlib.Core.List.{List, [], _∷_, _++_}
 use mathlib.Core.Bool.{Bool, true, false, _&&_, cond}
 use Prim.Native.Nat.{ℕ}
 use lib.Dec.{eqb}
-use Rattle.rules.specs.Cells.{member, more, count}
-use Rattle.rules.specs.Filter.{raised}
+use Rattle.rules.specs.Cells.{member, mapCells, more, count}
 use Rattle.rules.specs.Calls.{Activation, ofRow}
 use Rattle.rules.proofs.Cells.{map-map}
 use Rattle.order.specs.Filled.{countedIn, filled, Permuted, same, swap, next, both}
@@ -19,24 +18,25 @@ pub filled-append : (n bank : ℕ) (at : ℕ → List ℕ) (os ps : List Activat
 filled-append n bank at [] ps filter = refl
 filled-append n bank at (o ∷ os) ps filter = filled-append n bank at os ps _
 
+-- one change of the cells at some places, and at others: either may be made first
+module _ (g : ℕ → ℕ) where
+  abbrev changed : List ℕ → ℕ → ℕ → ℕ
+  changed at i c = cond (member i at) (g c) c
+
+  change-swap : (at other cs : List ℕ) → mapCells (changed at) (mapCells (changed other) cs) ≡ mapCells (changed other) (mapCells (changed at) cs)
+  change-swap at other cs =
+      map-map (changed at) (changed other) (λ i c. changed at i (changed other i c)) cs (λ i c. refl)
+      ∙ sym (map-map (changed other) (changed at) (λ i c. changed at i (changed other i c)) cs (λ i c. either (member i at) (member i other) c))
+    where
+      either : (p q : Bool) (c : ℕ) → cond q (g (cond p (g c) c)) (cond p (g c) c) ≡ cond p (g (cond q (g c) c)) (cond q (g c) c)
+      either true true c = refl
+      either true false c = refl
+      either false true c = refl
+      either false false c = refl
+
 counted-swap : (n : ℕ) (at other filter : List ℕ) → countedIn n at (countedIn n other filter) ≡ countedIn n other (countedIn n at filter)
 unfolding countedIn
-counted-swap n at other filter =
-    map-map first second (λ i c. first i (second i c)) filter (λ i c. refl)
-    ∙ sym (map-map second first (λ i c. first i (second i c)) filter (λ i c. either (member i at) (member i other) c))
-  where
-    first : ℕ → ℕ → ℕ
-    first i c = cond (member i at) (raised n c) c
-
-    second : ℕ → ℕ → ℕ
-    second i c = cond (member i other) (raised n c) c
-
-    either : (p q : Bool) (c : ℕ)
-        → cond q (raised n (cond p (raised n c) c)) (cond p (raised n c) c) ≡ cond p (raised n (cond q (raised n c) c)) (cond q (raised n c) c)
-    either true true c = refl
-    either true false c = refl
-    either false true c = refl
-    either false false c = refl
+counted-swap n at other filter = change-swap _ at other filter
 
 -- ---- the rows that are opened in a bank, which are all that its filter counts by
 
