@@ -1,0 +1,6 @@
+pub mod Steps
+pub mod Group
+pub mod Filters
+pub mod Calls
+pub mod Program
+pub mod Theorems
