@@ -1,10 +1,8 @@
-// The command line of the program plan_settings: its words as numbers, its options, and messages on what is wrong with them.
+// The command line of the program plan_settings: its words as numbers, and its options.
 ghost use mathlib.Core.Path.{_≡_};
 ghost use Prim.Native.Nat.{_+_, _^_, _≤_};
 ghost use Rattle.plan_arguments.specs.Decimal.{numberOf, wrong as Decimal·wrong};
 ghost use Rattle.plan_arguments.specs.Options.{wordsOf};
-
-pub mod faults;
 
 // A number, or no number where ok is false.
 pub struct Number {

@@ -4,7 +4,6 @@
 // of 32-bit counters. The table goes to standard output, an error to standard error.
 use plan_arguments::Number;
 use plan_arguments::argument;
-use plan_arguments::faults;
 use plan_arguments::read_options;
 use plan_costs::Width;
 ghost use Prim.Native.Nat.{_≤_, _^_};
@@ -21,7 +20,7 @@ fn field(options: usize, i: usize) -> Number
 {
     let n = argument(options + i, MOST_FIELD);
     if !n.ok {
-        faults::report_word(i, MOST_FIELD);
+        plan_faults::report_word(i, MOST_FIELD);
     }
     n
 }
@@ -57,7 +56,7 @@ fn setting_of(w: u64, trc: u64, tfaw: u64, n: u64, td: u64, l: u64, mark: u64) -
 fn print_delays(s: rules::Setting, width: Width, is_one: bool)
     requires { ⌜ ServedWidth width ⌝ }
 {
-    if !faults::are_in_range(width.limits, s) {
+    if !plan_faults::are_in_range(width.limits, s) {
         return;
     }
     if is_one {
@@ -88,10 +87,10 @@ fn are_spans(first: usize, count: usize) -> bool {
     while i < count {
         let x = argument(i, MOST_SPAN);
         if !x.ok {
-            faults::report_word(7, MOST_SPAN);
+            plan_faults::report_word(7, MOST_SPAN);
             return false;
         }
-        if !faults::is_within(7, x.value, MOST_SPAN) {
+        if !plan_faults::is_within(7, x.value, MOST_SPAN) {
             return false;
         }
         i += 1;
@@ -101,10 +100,10 @@ fn are_spans(first: usize, count: usize) -> bool {
 
 // The table of spans, for the X from argument `first` to the last of `count`.
 fn print_spans(s: rules::Setting, first: usize, count: usize) {
-    if !faults::are_in_range(setting::wide_limits(), s) {
+    if !plan_faults::are_in_range(setting::wide_limits(), s) {
         return;
     }
-    if !faults::is_within(6, s.td, 536870912) {
+    if !plan_faults::is_within(6, s.td, 536870912) {
         return;
     }
     if are_spans(first, count) {
@@ -123,7 +122,15 @@ fn read_spans(options: usize, mark: u64, count: usize)
     let n = field(options, 5);
     let td = field(options, 6);
     if w.ok && trc.ok && tfaw.ok && l.ok && n.ok && td.ok {
-        let s = setting_of(w.value, trc.value, tfaw.value, n.value, td.value, l.value, mark);
+        let s = setting_of(
+            w.value,
+            trc.value,
+            tfaw.value,
+            n.value,
+            td.value,
+            l.value,
+            mark,
+        );
         print_spans(s, options + 7, count);
     }
 }
@@ -134,7 +141,7 @@ fn start_delays(options: usize, width: Width, mark: u64)
 {
     let count = os::arg_count();
     if count < 5 + options || count > 6 + options {
-        faults::report_count();
+        plan_faults::report_count();
         return;
     }
     read_delays(options, width, mark, count == 6 + options);
@@ -145,7 +152,7 @@ fn start_spans(options: usize, mark: u64)
 {
     let count = os::arg_count();
     if count < 8 + options {
-        faults::report_span_count();
+        plan_faults::report_span_count();
         return;
     }
     read_spans(options, mark, count);

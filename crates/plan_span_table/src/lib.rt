@@ -1,60 +1,48 @@
 // The table that the program plan_settings prints with --spans: a line for each X of the command line. What it prints is what the proved function of the
 // crate `plan_spans` answers.
-use spans::Span;
 use plan_text::print;
 use plan_text::print_cell;
+use plan_text::print_named;
 use plan_text::print_nanoseconds;
-use plan_text::print_number;
+use plan_text::print_places;
+use plan_text::print_timing;
+use spans::Span;
 ghost use Prim.Native.Nat.{_^_, _≤_};
 
 fn print_head(s: rules::Setting) {
-    print(b"W ");
-    print_number(s.w);
-    print(b", tRC ");
-    print_number(s.trc);
-    print(b", tFAW ");
-    print_number(s.tfaw);
-    print(b", N ");
-    print_number(s.n);
-    print(b", tD ");
-    print_number(s.td);
-    print(b", L ");
-    print_number(s.l);
+    print_timing(s.w, s.trc, s.tfaw);
+    print_named(b", N ", s.n);
+    print_named(b", tD ", s.td);
+    print_named(b", L ", s.l);
     if s.profile == 1 {
         print(b", small profile");
     }
     print(b" (ticks; 4 ticks are a nanosecond)\n");
 }
 
-fn print_places(limit: u64) {
-    print(b"tD needs a history of more than ");
-    print_number(limit);
-    print(b" places\n");
-}
-
 // The setting has no more banks than the profile, so that only its history can be above it.
 fn print_profile_limit(mark: u64) {
     let card = setting::profile(mark);
+    print(b": tD");
     print_places(card.history);
 }
 
 fn print_history_limit() {
     let limits = setting::wide_limits();
+    print(b": tD");
     print_places(limits.history);
 }
 
 // Why the setting is refused, by the number of the refusal.
 fn print_refusal(refusal: u32, mark: u64) {
-    print(b"The setting is refused: refusal ");
-    print_number(refusal as u64);
-    print(b": ");
+    print_named(b"The setting is refused: refusal ", refusal as u64);
     match refusal {
-        1 => print(b"a number is out of its range\n"),
-        2 => print(b"W - 1 is below 2 x N x tRC, two bursts of N do not fit in the window\n"),
-        3 => print(b"tD is below tRC or above W / 2\n"),
+        1 => print(b": a number is out of its range\n"),
+        2 => print(b": W - 1 is below 2 x N x tRC, two bursts of N do not fit in the window\n"),
+        3 => print(b": tD is below tRC or above W / 2\n"),
         4 => print_history_limit(),
         16 => print_profile_limit(mark),
-        _ => print(b"B is above L\n"),
+        _ => print(b": B is above L\n"),
     }
 }
 
@@ -65,6 +53,7 @@ fn print_line(s: rules::Setting, x: u64) {
         Span::Most { times } => {
             print(b" ");
             print_cell(x);
+            print(b" ");
             print_nanoseconds(x);
             print(b" ");
             print_cell(times);
@@ -78,7 +67,7 @@ fn print_line(s: rules::Setting, x: u64) {
 fn print_lines(s: rules::Setting, first: usize, count: usize, most: u64)
     requires { ⌜ most ≤ 2 ^ 60 ⌝ }
 {
-    print(b"            X    nanoseconds      at most\n");
+    print(b"            X     nanoseconds      at most\n");
     let mut i = first;
     while i < count {
         let x = plan_arguments::argument(i, most);

@@ -3,41 +3,32 @@
 use plan_costs::Width;
 use plan_text::print;
 use plan_text::print_cell;
+use plan_text::print_named;
 use plan_text::print_nanoseconds;
-use plan_text::print_number;
+use plan_text::print_places;
+use plan_text::print_timing;
 ghost use Prim.Native.Nat.{_^_, _≤_};
 ghost use Rattle.plan_interval.specs.Served.{Served};
 ghost use Rattle.plan_costs.specs.Costs.{ServedWidth};
 
 fn print_head(width: Width, s: rules::Setting) {
-    print(b"W ");
-    print_number(s.w);
-    print(b", tRC ");
-    print_number(s.trc);
-    print(b", tFAW ");
-    print_number(s.tfaw);
-    print(b", L ");
-    print_number(s.l);
+    print_timing(s.w, s.trc, s.tfaw);
+    print_named(b", L ", s.l);
     if width.counter == 4 {
         print(b", 32-bit counters");
     }
     if s.profile == 1 {
         print(b", small profile");
     }
-    print(b" (ticks; 4 ticks are a nanosecond); bytes of the four buffers for ");
-    print_number(s.banks);
-    print(b" banks and ");
-    print_number(s.threads);
+    print_named(
+        b" (ticks; 4 ticks are a nanosecond); bytes of the four buffers for ",
+        s.banks,
+    );
+    print_named(b" banks and ", s.threads);
     print(b" threads\n");
     print(
         b"           N    least tD    nanoseconds           H           B greatest tD       bytes\n",
     );
-}
-
-fn print_places(limit: u64) {
-    print(b" needs a history of more than ");
-    print_number(limit);
-    print(b" places\n");
 }
 
 fn print_history_limit(limits: rules::Limits) {
@@ -54,8 +45,7 @@ fn print_profile_limit(mark: u64) {
 
 // Why no delay is accepted at these limits under the profile with this mark, by the number of the refusal.
 fn print_reason(refusal: u32, limits: rules::Limits, mark: u64) {
-    print(b"refusal ");
-    print_number(refusal as u64);
+    print_named(b"refusal ", refusal as u64);
     match refusal {
         1 => print(b": a field is out of its range\n"),
         2 => print(b": W - 1 is below 2 x N x tRC, two bursts of N do not fit in the window\n"),

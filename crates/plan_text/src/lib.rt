@@ -25,6 +25,25 @@ pub fn print_cell(n: u64) {
     io::write_all(STDOUT_FILENO, &digits[..size]);
 }
 
+// A number with its name before it.
+pub fn print_named(name: &[u8], n: u64) {
+    print(name);
+    print_number(n);
+}
+
+// How the first line of a table begins.
+pub fn print_timing(w: u64, trc: u64, tfaw: u64) {
+    print_named(b"W ", w);
+    print_named(b", tRC ", trc);
+    print_named(b", tFAW ", tfaw);
+}
+
+// How a line ends that says what needs too long a history.
+pub fn print_places(limit: u64) {
+    print_named(b" needs a history of more than ", limit);
+    print(b" places\n");
+}
+
 // Ticks of a quarter nanosecond as nanoseconds with two decimals, in a column of 15.
 pub fn print_nanoseconds(ticks: u64) {
     print_cell(ticks / 4);
