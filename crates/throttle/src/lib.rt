@@ -179,7 +179,7 @@ pub extern "C" fn throttle_wide_setup(
         rows,
         threads,
     );
-    wide_filter::clear(counters, cleared.used);
+    wide_turn::clear(counters, cleared.used);
     cleared.code
 }
 
@@ -250,7 +250,7 @@ pub extern "C" fn throttle_wide_done(
         bank,
         thread,
     );
-    wide_filter::turn(counters, clocked.banks, clocked.from, clocked.to);
+    wide_turn::turn(counters, clocked.banks, clocked.from, clocked.to);
     clocked.code
 }
 
@@ -286,7 +286,7 @@ pub extern "C" fn throttle_wide_index(
         thread,
         out,
     );
-    wide_filter::turn(counters, reading.banks, reading.from, reading.to);
+    wide_turn::turn(counters, reading.banks, reading.from, reading.to);
     reading.code
 }
 

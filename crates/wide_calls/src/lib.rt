@@ -8,8 +8,8 @@ use filterless::decide_by;
 use head::Head;
 use rules::Setting;
 use state::activate;
+use wide_count::count;
 use wide_filter::bank_estimate;
-use wide_filter::count;
 ghost use mathlib.Core.Path.{_≡_};
 ghost use Prim.Native.Nat.{_-_, _*_, _%_, _^_, _≤_, _<_};
 ghost use lib.ListN.{length, getD};
@@ -35,7 +35,7 @@ fn look(
     requires { ⌜ (banks ≤ 16) × (banks * 2048 ≤ length (now counters)) × (from < 2 ^ 63) × (bank < banks) × Within first × Within second ⌝ }
     ensures { λ r. ⌜ (now (counters .exit) ≡ turnedCounters (banks * 2048) from to (now (counters .entry))) × (r .active ≡ estimate (now (counters .exit)) bank (to % 2) (two first second (to % 2))) × (r .other ≡ estimate (now (counters .exit)) bank (1 - to % 2) (two first second (1 - to % 2))) ⌝ }
 {
-    wide_filter::turn(counters, banks, from, to);
+    wide_turn::turn(counters, banks, from, to);
     let f = (to % 2) as usize;
     let active = bank_estimate(&*counters, bank, first, second, f) as u64;
     let other = bank_estimate(&*counters, bank, first, second, 1 - f) as u64;

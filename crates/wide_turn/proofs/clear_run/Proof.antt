@@ -1,12 +1,12 @@
--- `wide_filter::clear_run` meets its contract. The loop has cleared the run of the i cells from start on.
+-- `wide_turn::clear_run` meets its contract. The loop has cleared the run of the i cells from start on.
 use Prim.Native.Nat.{_-_}
 use native.Mathlib.Omega.{arith}
 use Rattle.rules.proofs.Clearing.{Cleared, cleared-all}
 use Rattle.filter_turn.specs.Changes.{inRun}
 use Rattle.filter_turn.proofs.Clearing.{run-none, run-more}
 use borrow.Author.Needs.{needs}
-use Rattle.wide_filter.proofs.clear_run.Statement.{statement}
-use Rattle.wide_filter.proofs.clear_run.Tie as tie
+use Rattle.wide_turn.proofs.clear_run.Statement.{statement}
+use Rattle.wide_turn.proofs.clear_run.Tie as tie
 
 abbrev Inv-loop : tie.InvT-loop
 Inv-loop counters₀ start n i₀ counters i = Cleared (inRun start) n counters₀ i counters

@@ -1,9 +1,9 @@
--- `wide_filter::clear` meets its contract: the run from cell 0 on is the used cells.
+-- `wide_turn::clear` meets its contract: the run from cell 0 on is the used cells.
 use mathlib.Core.Path.{_∙_}
 use Rattle.filter_turn.proofs.Clearing.{run-used}
 use borrow.Author.Needs.{needs}
-use Rattle.wide_filter.proofs.clear.Statement.{statement}
-use Rattle.wide_filter.proofs.clear.Tie as tie
+use Rattle.wide_turn.proofs.clear.Statement.{statement}
+use Rattle.wide_turn.proofs.clear.Tie as tie
 
 clear-run-requires : tie.Need-clear-run-requires
 clear-run-requires c κs = search needs

@@ -5,8 +5,8 @@ use native.Mathlib.Omega.{arith}
 use lib.ListN.{length, length-set}
 use Rattle.filter_count.proofs.Counting.{row-raised, row-estimate}
 use borrow.Author.Needs.{needs}
-use Rattle.wide_filter.proofs.count_in.Statement.{statement}
-use Rattle.wide_filter.proofs.count_in.Tie as tie
+use Rattle.wide_count.proofs.count_in.Statement.{statement}
+use Rattle.wide_count.proofs.count_in.Tie as tie
 
 -- the row has four places
 four : (c : tie.Start) → length (c .args .t4) ≡ 4

@@ -5,8 +5,8 @@ use lib.ListN.{length}
 use Rattle.rules.specs.Filter.{two, estimate, counted}
 use Rattle.filter_count.proofs.Counting.{counted-row, first-estimate}
 use borrow.Author.Needs.{needs}
-use Rattle.wide_filter.proofs.count.Statement.{statement}
-use Rattle.wide_filter.proofs.count.Tie as tie
+use Rattle.wide_count.proofs.count.Statement.{statement}
+use Rattle.wide_count.proofs.count.Tie as tie
 
 -- the row has four places in each filter
 fours : (c : tie.Start) → (length (c .args .«at») ≡ 4) × (length (c .args .other) ≡ 4)

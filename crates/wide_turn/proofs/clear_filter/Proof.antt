@@ -1,11 +1,11 @@
--- `wide_filter::clear_filter` meets its contract. The loop has cleared the filter in the first b banks.
+-- `wide_turn::clear_filter` meets its contract. The loop has cleared the filter in the first b banks.
 use Prim.Native.Nat.{_-_}
 use native.Mathlib.Omega.{arith}
 use Rattle.rules.proofs.Clearing.{Cleared, cleared-all}
 use Rattle.filter_turn.proofs.Clearing.{banksOf, filter-none, filter-more}
 use borrow.Author.Needs.{needs}
-use Rattle.wide_filter.proofs.clear_filter.Statement.{statement}
-use Rattle.wide_filter.proofs.clear_filter.Tie as tie
+use Rattle.wide_turn.proofs.clear_filter.Statement.{statement}
+use Rattle.wide_turn.proofs.clear_filter.Tie as tie
 
 abbrev Inv-loop : tie.InvT-loop
 Inv-loop counters₀ banks f b₀ counters b = Cleared (banksOf f) banks counters₀ b counters

@@ -1,12 +1,12 @@
--- `wide_filter::turn` meets its contract, by the three cases of the clock's move.
+-- `wide_turn::turn` meets its contract, by the three cases of the clock's move.
 use Prim.Native.Nat.{_*_}
 use mathlib.Core.Path.{_∙_}
 use native.Mathlib.Omega.{arith}
 use Rattle.rules.proofs.Clock.{counters-none}
 use Rattle.filter_turn.proofs.Clearing.{turned-one, turned-both}
 use borrow.Author.Needs.{needs}
-use Rattle.wide_filter.proofs.turn.Statement.{statement}
-use Rattle.wide_filter.proofs.turn.Tie as tie
+use Rattle.wide_turn.proofs.turn.Statement.{statement}
+use Rattle.wide_turn.proofs.turn.Tie as tie
 
 returns : tie.Need-returns
 returns c =
