@@ -7,8 +7,8 @@ use lib.Dec.{eqb}
 use Rattle.rules.specs.Cells.{member, mapCells, more, count}
 use Rattle.rules.specs.Calls.{Activation, ofRow}
 use Rattle.rules.proofs.Cells.{map-map}
-use Rattle.order.specs.Filled.{countedIn, filled, Permuted, same, swap, next, both}
-use Rattle.order.specs.Claims.{OrderPlaysNoPart, PermutedIsSame}
+use Rattle.order.specs.Filled.{leastAt, countedIn, filled, Permuted, same, swap, next, both}
+use Rattle.order.specs.Claims.{OrderPlaysNoPart, EstimatesAlike, PermutedIsSame}
 use Rattle.order.proofs.Steps.{times, steps, steps-same}
 
 -- ---- openings one after another
@@ -80,6 +80,9 @@ order-plays-no-part n bank at os ps group filter =
     ∙ steps-same (rowStep n bank at) (row-swap n bank at) (rowsOf bank os) (rowsOf bank ps)
     (λ row. rows-count bank row os ∙ group row ∙ sym (rows-count bank row ps)) filter
     ∙ sym (is-steps n bank at ps filter)
+
+pub estimates-alike : EstimatesAlike
+estimates-alike n bank at os ps group filter row = ap (λ cells. leastAt cells (at row)) (order-plays-no-part n bank at os ps group filter)
 
 -- ---- permutations
 

@@ -28,6 +28,12 @@ abbrev pub OrderPlaysNoPart : Type 0
 OrderPlaysNoPart =
     (n bank : ℕ) (at : ℕ → List ℕ) (os ps : List Activation) → SameGroup bank os ps → (filter : List ℕ) → filled n bank at os filter ≡ filled n bank at ps filter
 
+-- So the estimate of every row is the same, whatever its places.
+abbrev pub EstimatesAlike : Type 0
+EstimatesAlike =
+    (n bank : ℕ) (at : ℕ → List ℕ) (os ps : List Activation) → SameGroup bank os ps
+    → (filter : List ℕ) (row : ℕ) → leastAt (filled n bank at os filter) (at row) ≡ leastAt (filled n bank at ps filter) (at row)
+
 -- Every permutation of a list is the same group, for every bank.
 abbrev pub PermutedIsSame : Type 0
 PermutedIsSame = (os ps : List Activation) → Permuted os ps → (bank : ℕ) → SameGroup bank os ps
@@ -112,6 +118,7 @@ SameEstimates p =
 
 pub record Theorems : Type 0 where
   pub orderPlaysNoPart : OrderPlaysNoPart
+  pub estimatesAlike : EstimatesAlike
   pub permutedIsSame : PermutedIsSame
   pub countedInFilters : CountedInFilters
   pub estimateOfFilter : EstimateOfFilter

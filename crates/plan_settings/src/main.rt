@@ -6,7 +6,7 @@ use plan_arguments::Number;
 use plan_arguments::argument;
 use plan_arguments::read_options;
 use plan_costs::Width;
-ghost use Prim.Native.Nat.{_≤_, _^_};
+ghost use Prim.Native.Nat.{_≤_};
 ghost use Rattle.plan_costs.specs.Costs.{ServedWidth};
 
 // The greatest number that is read for a field of the setting.
