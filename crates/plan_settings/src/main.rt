@@ -2,55 +2,14 @@
 // or for the one given, with H, B and the bytes of the lent buffers, at the limits of 16-bit or of 32-bit counters, under the large profile
 // or the small one. plan_settings [--wide] [--small] --spans W TRC TFAW L N TD X ..: the most activations of a row in each span of X ticks, at the limits
 // of 32-bit counters. The table goes to standard output, an error to standard error.
-use plan_arguments::Number;
-use plan_arguments::argument;
 use plan_arguments::read_options;
 use plan_costs::Width;
+use plan_fields::field;
+use plan_fields::read_timing;
+use plan_fields::setting_of;
+use plan_fields::threshold;
 ghost use Prim.Native.Nat.{_≤_};
 ghost use Rattle.plan_costs.specs.Costs.{ServedWidth};
-
-// The greatest number that is read for a field of the setting.
-const MOST_FIELD: u64 = 4294967295;
-// The greatest X that is read.
-const MOST_SPAN: u64 = 999999999999999999;
-
-// Number i of the six, which is reported where it is none; options is the count of words before the first.
-fn field(options: usize, i: usize) -> Number
-    requires { ⌜ (options ≤ 3) × (i ≤ 6) ⌝ }
-{
-    let n = argument(options + i, MOST_FIELD);
-    if !n.ok {
-        plan_faults::report_word(i, MOST_FIELD);
-    }
-    n
-}
-
-// The threshold that is given, or 1 where none is.
-fn threshold(options: usize, is_one: bool) -> Number
-    requires { ⌜ options ≤ 3 ⌝ }
-{
-    if is_one {
-        return field(options, 5);
-    }
-    Number { ok: true, value: 1 }
-}
-
-// The setting of the most banks of its profile and 8 threads. Q plays no part.
-fn setting_of(w: u64, trc: u64, tfaw: u64, n: u64, td: u64, l: u64, mark: u64) -> rules::Setting {
-    let card = setting::profile(mark);
-    rules::Setting {
-        w,
-        trc,
-        tfaw,
-        n,
-        td,
-        l,
-        q: 1,
-        banks: card.banks,
-        threads: 8,
-        profile: mark,
-    }
-}
 
 // The table of delays, in which the delay of the setting plays no part.
 fn print_delays(s: rules::Setting, width: Width, is_one: bool)
@@ -70,32 +29,11 @@ fn print_delays(s: rules::Setting, width: Width, is_one: bool)
 fn read_delays(options: usize, width: Width, mark: u64, is_one: bool)
     requires { ⌜ (options ≤ 3) × ServedWidth width ⌝ }
 {
-    let w = field(options, 1);
-    let trc = field(options, 2);
-    let tfaw = field(options, 3);
-    let l = field(options, 4);
+    let t = read_timing(options);
     let n = threshold(options, is_one);
-    if w.ok && trc.ok && tfaw.ok && l.ok && n.ok {
-        let s = setting_of(w.value, trc.value, tfaw.value, n.value, 1, l.value, mark);
-        print_delays(s, width, is_one);
+    if t.ok && n.ok {
+        print_delays(setting_of(t, n.value, 1, mark), width, is_one);
     }
-}
-
-// Whether each word from argument `first` to the last of `count` is an X; the first that is none is reported.
-fn are_spans(first: usize, count: usize) -> bool {
-    let mut i = first;
-    while i < count {
-        let x = argument(i, MOST_SPAN);
-        if !x.ok {
-            plan_faults::report_word(7, MOST_SPAN);
-            return false;
-        }
-        if !plan_faults::is_within(7, x.value, MOST_SPAN) {
-            return false;
-        }
-        i += 1;
-    }
-    true
 }
 
 // The table of spans, for the X from argument `first` to the last of `count`.
@@ -106,8 +44,8 @@ fn print_spans(s: rules::Setting, first: usize, count: usize) {
     if !plan_faults::is_within(6, s.td, 536870912) {
         return;
     }
-    if are_spans(first, count) {
-        plan_span_table::print_spans(s, first, count, MOST_SPAN);
+    if plan_span_table::are_spans(first, count) {
+        plan_span_table::print_spans(s, first, count);
     }
 }
 
@@ -115,23 +53,11 @@ fn print_spans(s: rules::Setting, first: usize, count: usize) {
 fn read_spans(options: usize, mark: u64, count: usize)
     requires { ⌜ options ≤ 3 ⌝ }
 {
-    let w = field(options, 1);
-    let trc = field(options, 2);
-    let tfaw = field(options, 3);
-    let l = field(options, 4);
+    let t = read_timing(options);
     let n = field(options, 5);
     let td = field(options, 6);
-    if w.ok && trc.ok && tfaw.ok && l.ok && n.ok && td.ok {
-        let s = setting_of(
-            w.value,
-            trc.value,
-            tfaw.value,
-            n.value,
-            td.value,
-            l.value,
-            mark,
-        );
-        print_spans(s, options + 7, count);
+    if t.ok && n.ok && td.ok {
+        print_spans(setting_of(t, n.value, td.value, mark), options + 7, count);
     }
 }
 

@@ -1,5 +1,6 @@
 // The table that the program plan_settings prints with --spans: a line for each X of the command line. What it prints is what the proved function of the
 // crate `plan_spans` answers.
+use plan_arguments::argument;
 use plan_text::print;
 use plan_text::print_cell;
 use plan_text::print_named;
@@ -7,7 +8,9 @@ use plan_text::print_nanoseconds;
 use plan_text::print_places;
 use plan_text::print_timing;
 use spans::Span;
-ghost use Prim.Native.Nat.{_^_, _≤_};
+
+// The greatest X that is read.
+const MOST: u64 = 999999999999999999;
 
 fn print_head(s: rules::Setting) {
     print_timing(s.w, s.trc, s.tfaw);
@@ -63,27 +66,40 @@ fn print_line(s: rules::Setting, x: u64) {
     }
 }
 
-// The lines of the X from argument `first` on, which are numbers up to `most`.
-fn print_lines(s: rules::Setting, first: usize, count: usize, most: u64)
-    requires { ⌜ most ≤ 2 ^ 60 ⌝ }
-{
+// Whether each word from argument `first` to the last of `count` is an X; the first that is none is reported.
+pub fn are_spans(first: usize, count: usize) -> bool {
+    let mut i = first;
+    while i < count {
+        let x = argument(i, MOST);
+        if !x.ok {
+            plan_faults::report_word(7, MOST);
+            return false;
+        }
+        if !plan_faults::is_within(7, x.value, MOST) {
+            return false;
+        }
+        i += 1;
+    }
+    true
+}
+
+// The lines of the X from argument `first` to the last of `count`.
+fn print_lines(s: rules::Setting, first: usize, count: usize) {
     print(b"            X     nanoseconds      at most\n");
     let mut i = first;
     while i < count {
-        let x = plan_arguments::argument(i, most);
+        let x = argument(i, MOST);
         print_line(s, x.value);
         i += 1;
     }
 }
 
-// The table for the X from argument `first` to the last of `count`, or the refusal of the setting.
-pub fn print_spans(s: rules::Setting, first: usize, count: usize, most: u64)
-    requires { ⌜ most ≤ 2 ^ 60 ⌝ }
-{
+// The table for these X, or the refusal of the setting.
+pub fn print_spans(s: rules::Setting, first: usize, count: usize) {
     print_head(s);
     let answer = plan_spans::span(s, 1);
     match answer {
-        Span::Most { times: _ } => print_lines(s, first, count, most),
+        Span::Most { times: _ } => print_lines(s, first, count),
         Span::Refused { refusal } => print_refusal(refusal, s.profile),
     }
 }

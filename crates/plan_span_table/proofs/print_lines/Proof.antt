@@ -5,10 +5,10 @@ use Rattle.plan_span_table.proofs.print_lines.Statement.{statement}
 use Rattle.plan_span_table.proofs.print_lines.Tie as tie
 
 abbrev Inv-loop : tie.InvT-loop
-Inv-loop s first count most i₀ i = Unit {0}
+Inv-loop s first count i₀ i = Unit {0}
 
 abbrev μ-loop : tie.MeasureT-loop
-μ-loop s first count most i₀ i = count - i
+μ-loop s first count i₀ i = count - i
 
 slice-aggregate-print : tie.Need-slice-aggregate-print Inv-loop μ-loop
 slice-aggregate-print c = search needs

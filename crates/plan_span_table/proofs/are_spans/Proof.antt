@@ -1,8 +1,8 @@
 -- `are_spans`: each turn of the loop is one word nearer to the last.
 use Prim.Native.Nat.{_-_}
 use borrow.Author.Needs.{needs}
-use Rattle.plan_settings.proofs.are_spans.Statement.{statement}
-use Rattle.plan_settings.proofs.are_spans.Tie as tie
+use Rattle.plan_span_table.proofs.are_spans.Statement.{statement}
+use Rattle.plan_span_table.proofs.are_spans.Tie as tie
 
 abbrev Inv-loop : tie.InvT-loop
 Inv-loop first count i₀ i = Unit {0}
