@@ -55,9 +55,9 @@ uint32_t throttle_wide_delays(const uint64_t setting[THROTTLE_LEAST THROTTLE_SET
  * E = W/2, m = ceil((x - 1)/E) + 1 and F = N * ceil(m/2), it is
  *   F + 1 + floor((x - 1 - F * tRC)/tD)   if x - 1 >= F * tRC
  *   1 + floor((x - 1)/tRC)                otherwise
- * No list of calls after a set-up opens a row more often, at either width, with
- * any seeds, refused calls and a change-over included; that some list reaches
- * it is not claimed. With x = W it is B.
+ * After a set-up with this setting that returned 0, no list of calls opens a row
+ * more often, at either width, with any seeds, refused calls and a change-over
+ * included; that some list reaches it is not claimed. With x = W it is B.
  *
  * Returns 0 and writes the bound to out[0]. Otherwise out is left as it was, and
  * the number of a refusal is returned: 1 where x is 0; else the setting's own,

@@ -35,6 +35,7 @@ copy_tree() {
     planner_crates=${#members[@]}
     need_archive throttle
     archive_crates=${#members[@]}
+    need_archive plan
     need_archive hash_rows
     work=$(mktemp -d "$source_tree/target/commands.XXXXXX")
     trap 'rm -rf "$work"' EXIT

@@ -119,15 +119,16 @@ module _ (p : Policy) (s : Setting) (seeds : List ℕ) (bank f : ℕ) (f2 : f < 
   refused-within e st (done t b th) r a = fills-none s seeds bank f e st a
   refused-within e st (index t b th) r a = fills-none s seeds bank f e st a
 
-  pub step-within : (e : ℕ) (st : State) (c : Call) → epoch s (st .head .last) ≡ e → epoch s (callTick c) ≡ e → ByCall e st c (step p s seeds st c)
+  pub step-within : (e : ℕ) (st : State) (c : Call) → epoch s (st .head .last) ≡ e
+      → (refusalOf (p .limits) s seeds st c ≡ none → epoch s (callTick c) ≡ e) → ByCall e st c (step p s seeds st c)
   unfolding step
   step-within e st c a b =
       by-refusal (ByCall e st c) (refusalOf (p .limits) s seeds st c) st (performed p s (λ g. seeds) st c)
-      (performed-within e st c a b) (refused-within e st c (refusalOf (p .limits) s seeds st c) a)
+      (λ k. performed-within e st c a (b k) k) (refused-within e st c (refusalOf (p .limits) s seeds st c) a)
 
   -- ---- a list of calls
 
-  run-within : (e : ℕ) (cs : List Call) (st : State) → epoch s (st .head .last) ≡ e → InEpoch s e cs
+  run-within : (e : ℕ) (cs : List Call) (st : State) → epoch s (st .head .last) ≡ e → InEpoch p s seeds e st cs
       → Fills s seeds bank f e st (after p s seeds st cs) (activations cs (replies p s seeds st cs))
   run-within e [] st a h = fills-none s seeds bank f e st a
   run-within e (c ∷ cs) st a h =

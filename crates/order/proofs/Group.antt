@@ -8,7 +8,7 @@ use Rattle.rules.specs.Cells.{member, mapCells, more, count}
 use Rattle.rules.specs.Calls.{Activation, ofRow}
 use Rattle.rules.proofs.Cells.{map-map}
 use Rattle.order.specs.Filled.{leastAt, countedIn, filled, Permuted, same, swap, next, both}
-use Rattle.order.specs.Claims.{OrderPlaysNoPart, EstimatesAlike, PermutedIsSame}
+use Rattle.order.specs.Claims.{OrderPlaysNoPart, EstimatesAlike, PermutedIsSame, PermutedAlike}
 use Rattle.order.proofs.Steps.{times, steps, steps-same}
 
 -- ---- openings one after another
@@ -100,3 +100,6 @@ permuted-count test (both first second) = permuted-count test first ∙ permuted
 
 pub permuted-is-same : PermutedIsSame
 permuted-is-same os ps p bank row = permuted-count (ofRow bank row) p
+
+pub permuted-alike : PermutedAlike
+permuted-alike n bank at os ps p = order-plays-no-part n bank at os ps (permuted-is-same os ps p bank)

@@ -1,7 +1,7 @@
 -- What is proved of the order of openings: "while the seeds stay the same: .. within one epoch a filter's contents after a group of openings depend on
 -- what it held before and on the group, and not on the order" (document 02, m). The statements, as types. Their proofs are in proofs/.
 use mathlib.Core.Path.{_≡_}
-use mathlib.Core.List.{List, _∷_, map}
+use mathlib.Core.List.{List, [], _∷_, map}
 use mathlib.Core.Bool.{cond}
 use Prim.Native.Nat.{ℕ, _+_, _*_, _≤_, _<_}
 use lib.Dec.{T, eqb}
@@ -15,7 +15,7 @@ use Rattle.rules.specs.Clock.{epoch, turned}
 use Rattle.rules.specs.Hash.{places}
 use Rattle.rules.specs.Filter.{estimate, counted, Within}
 use Rattle.rules.specs.Policy.{Policy, narrow, wide}
-use Rattle.rules.specs.Calls.{Call, callTick, refusalOf, replies, after, Activation, activations}
+use Rattle.rules.specs.Calls.{Call, callTick, refusalOf, step, replies, after, Activation, activations}
 use Rattle.widths.specs.ChangeOver.{changeOverRefusal, changedState}
 use Rattle.widths.specs.Claims.{activationsOver}
 use Rattle.interface.specs.Claims.{Lent, Asked, callOf, foundIn, leftByAll, lentAfterAll, openings}
@@ -34,9 +34,13 @@ EstimatesAlike =
     (n bank : ℕ) (at : ℕ → List ℕ) (os ps : List Activation) → SameGroup bank os ps
     → (filter : List ℕ) (row : ℕ) → leastAt (filled n bank at os filter) (at row) ≡ leastAt (filled n bank at ps filter) (at row)
 
--- Every permutation of a list is the same group, for every bank.
+-- Every permutation of a list is the same group, for every bank, and so makes the same of every contents.
 abbrev pub PermutedIsSame : Type 0
 PermutedIsSame = (os ps : List Activation) → Permuted os ps → (bank : ℕ) → SameGroup bank os ps
+
+abbrev pub PermutedAlike : Type 0
+PermutedAlike =
+    (n bank : ℕ) (at : ℕ → List ℕ) (os ps : List Activation) → Permuted os ps → (filter : List ℕ) → filled n bank at os filter ≡ filled n bank at ps filter
 
 -- ---- the rules' counters are filters
 
@@ -55,15 +59,17 @@ EstimateOfFilter =
 
 -- ---- lists of calls
 
--- "within one epoch"
-abbrev pub InEpoch : Setting → ℕ → List Call → Type 0
-InEpoch s e cs = All (λ c. epoch s (callTick c) ≡ e) cs
+-- "within one epoch": each call of the list that is not refused has its tick in epoch e; a refused one may have any
+abbrev pub InEpoch : Policy → Setting → List ℕ → ℕ → State → List Call → Type 0
+InEpoch p s seeds e st [] = Unit {0}
+InEpoch p s seeds e st (c ∷ cs) =
+    (refusalOf (p .limits) s seeds st c ≡ none → epoch s (callTick c) ≡ e) × InEpoch p s seeds e (step p s seeds st c .state) cs
 
 -- After any calls within the epoch of the state's last tick, refused ones among them, from any state: each filter holds what the openings, read off
 -- the replies, make of what it held before.
 abbrev pub FilledByCalls : Policy → Type 0
 FilledByCalls p =
-    (s : Setting) (seeds : List ℕ) (st : State) (cs : List Call) → InEpoch s (epoch s (st .head .last)) cs
+    (s : Setting) (seeds : List ℕ) (st : State) (cs : List Call) → InEpoch p s seeds (epoch s (st .head .last)) st cs
     → (bank f : ℕ) → f < 2
     → filterOf (after p s seeds st cs .counters) bank f
     ≡ filled (s .n) bank (places seeds) (activations cs (replies p s seeds st cs)) (filterOf (st .counters) bank f)
@@ -72,7 +78,7 @@ FilledByCalls p =
 abbrev pub FilledFromTurn : Policy → Type 0
 FilledFromTurn p =
     (s : Setting) (seeds : List ℕ) (st : State) (c : Call) (cs : List Call) → refusalOf (p .limits) s seeds st c ≡ none
-    → InEpoch s (epoch s (callTick c)) cs
+    → InEpoch p s seeds (epoch s (callTick c)) (step p s seeds st c .state) cs
     → (bank f : ℕ) → f < 2
     → filterOf (after p s seeds st (c ∷ cs) .counters) bank f
     ≡ filled (s .n) bank (places seeds) (activations (c ∷ cs) (replies p s seeds st (c ∷ cs))) (filterOf (turned s st (callTick c) .counters) bank f)
@@ -82,7 +88,8 @@ abbrev pub FilledOver : Type 0
 FilledOver =
     (s : Setting) (seeds : List ℕ) (st : State) (earlier : List Call) (new : List ℕ) (later : List Call)
     → changeOverRefusal s seeds (after narrow s seeds st earlier) new ≡ none
-    → InEpoch s (epoch s (st .head .last)) earlier → InEpoch s (epoch s (st .head .last)) later
+    → InEpoch narrow s seeds (epoch s (st .head .last)) st earlier
+    → InEpoch wide s seeds (epoch s (st .head .last)) (changedState s seeds (after narrow s seeds st earlier) new) later
     → (bank f : ℕ) → bank < s .banks → f < 2
     → filterOf (after wide s seeds (changedState s seeds (after narrow s seeds st earlier) new) later .counters) bank f
     ≡ filled (s .n) bank (places seeds) (activationsOver s seeds st earlier new later) (filterOf (st .counters) bank f)
@@ -90,7 +97,8 @@ FilledOver =
 -- The same of what a C program sees: its openings, and the counters in the memory that its calls leave.
 abbrev pub FilledForC : Policy → Type 0
 FilledForC p =
-    (setting seeds : List ℕ) (m : Lent) (cs : List Asked) → InEpoch (settingOf setting) (epoch (settingOf setting) (foundIn m .head .last)) (map callOf cs)
+    (setting seeds : List ℕ) (m : Lent) (cs : List Asked)
+    → InEpoch p (settingOf setting) seeds (epoch (settingOf setting) (foundIn m .head .last)) (foundIn m) (map callOf cs)
     → (bank f : ℕ) → f < 2
     → filterOf (lentAfterAll p setting seeds m cs .counters) bank f
     ≡ filled (settingOf setting .n) bank (places seeds) (openings cs (leftByAll p setting seeds m cs)) (filterOf (m .counters) bank f)
@@ -99,7 +107,7 @@ FilledForC p =
 abbrev pub SameContents : Policy → Type 0
 SameContents p =
     (s : Setting) (seeds : List ℕ) (st su : State) (cs ds : List Call)
-    → InEpoch s (epoch s (st .head .last)) cs → InEpoch s (epoch s (su .head .last)) ds
+    → InEpoch p s seeds (epoch s (st .head .last)) st cs → InEpoch p s seeds (epoch s (su .head .last)) su ds
     → (bank f : ℕ) → f < 2 → SameGroup bank (activations cs (replies p s seeds st cs)) (activations ds (replies p s seeds su ds))
     → filterOf (st .counters) bank f ≡ filterOf (su .counters) bank f
     → filterOf (after p s seeds st cs .counters) bank f ≡ filterOf (after p s seeds su ds .counters) bank f
@@ -109,7 +117,7 @@ abbrev pub SameEstimates : Policy → Type 0
 SameEstimates p =
     (s : Setting) (seeds : List ℕ) → T (seedsInRange seeds)
     → (st su : State) (cs ds : List Call)
-    → InEpoch s (epoch s (st .head .last)) cs → InEpoch s (epoch s (su .head .last)) ds
+    → InEpoch p s seeds (epoch s (st .head .last)) st cs → InEpoch p s seeds (epoch s (su .head .last)) su ds
     → (bank f : ℕ) → f < 2 → SameGroup bank (activations cs (replies p s seeds st cs)) (activations ds (replies p s seeds su ds))
     → filterOf (st .counters) bank f ≡ filterOf (su .counters) bank f
     → (row : ℕ) → estimate (after p s seeds st cs .counters) bank f (places seeds row) ≡ estimate (after p s seeds su ds .counters) bank f (places seeds row)
@@ -120,6 +128,7 @@ pub record Theorems : Type 0 where
   pub orderPlaysNoPart : OrderPlaysNoPart
   pub estimatesAlike : EstimatesAlike
   pub permutedIsSame : PermutedIsSame
+  pub permutedAlike : PermutedAlike
   pub countedInFilters : CountedInFilters
   pub estimateOfFilter : EstimateOfFilter
   pub filledByCalls : (p : Policy) → FilledByCalls p

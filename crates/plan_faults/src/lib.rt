@@ -1,4 +1,5 @@
-// What is wrong with the arguments of the program plan_settings: a line on standard error for each fault, which begins with the name that the program was called by.
+// What is wrong with the arguments of the program plan_settings: a line on standard error for each fault, which begins with the name that the program
+// was called by.
 // The ranges are those of document 01's table, and that of N is the width's. Whoever calls the program prints its usage.
 fn complain(text: &[u8]) {
     io::write_all(libc::STDERR_FILENO, text);

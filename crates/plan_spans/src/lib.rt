@@ -18,7 +18,7 @@ fn ceil_div(a: u64, b: u64) -> u64
     (a - 1) / b + 1
 }
 
-// F, the most activations that the row rule lets pass without a delay: m epochs meet the span.
+// F, the most activations that the row rule lets pass without a delay: at most m epochs meet the span.
 fn free_most(s: rules::Setting, x: u64) -> u64
     requires { ⌜ Room s × (1 ≤ x) ⌝ }
     ensures { λ r. ⌜ r ≡ freeMost s x ⌝ }

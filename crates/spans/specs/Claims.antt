@@ -46,7 +46,7 @@ NeverFalls = (s : Setting) (seeds : List ℕ) → settingRefusal limits02 s seed
 abbrev pub OneATick : Type 0
 OneATick = (s : Setting) (seeds : List ℕ) → settingRefusal limits02 s seeds ≡ none → (x : ℕ) → 1 ≤ x → spanBound s x ≤ x
 
--- For k windows of W ticks N × (k + 1) activations are free of the delay; for one window the bound is B, by which refusal 5 is decided.
+-- For k windows of W ticks the bound counts N × (k + 1) activations as free of the delay; for one window it is B, by which refusal 5 is decided.
 abbrev pub InWindows : Type 0
 InWindows =
     (s : Setting) (seeds : List ℕ) → settingRefusal limits02 s seeds ≡ none

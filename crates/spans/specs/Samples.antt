@@ -1,5 +1,5 @@
--- The bound against the length of the span, computed: for document 01's setting S, and for BlockHammer's Table 1 with the N and the tD that are accepted
--- under L 16,384. Each line has X and the bound.
+-- The bound against the length of the span, computed: for document 01's setting S, and for BlockHammer's Table 1 with an N and a tD that are accepted under
+-- L 16,384. Each line has X and the bound.
 use mathlib.Core.Path.{_≡_}
 use Prim.Native.Nat.{_+_, _-_, _^_}
 use Rattle.rules.specs.declared.Setting.{Setting}

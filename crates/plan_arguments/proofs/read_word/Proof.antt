@@ -1,5 +1,6 @@
 -- `read_word`. The loop's invariant: what is left of the word, read after the number so far, gives the number of the whole word.
-use Prim.Native.Nat.{_-_, _≤_}
+use mathlib.Core.List.{List}
+use Prim.Native.Nat.{ℕ, _-_, _≤_}
 use mathlib.Core.Path.{_≡_, sym, _∙_}
 use native.Mathlib.Omega.{arith}
 use lib.ListN.{length}
@@ -15,6 +16,17 @@ Inv-loop word most v₀ i₀ v i = (i ≤ length word) × (v ≤ most) × (digit
 
 abbrev μ-loop : tie.MeasureT-loop
 μ-loop word most v₀ i₀ v i = length word - i
+
+-- the arguments, where the loop's test has been reached
+abbrev word : tie.At-loop Inv-loop μ-loop → List ℕ
+word l = l .before .before .before .args .word .now
+
+abbrev most : tie.At-loop Inv-loop μ-loop → ℕ
+most l = l .before .before .before .args .most
+
+-- that place, from where the byte has been read
+abbrev at : tie.After-wide Inv-loop μ-loop → tie.At-loop Inv-loop μ-loop
+at k = k .before .before .before
 
 wrong-requires : tie.Need-wrong-requires Inv-loop μ-loop
 wrong-requires c κs = search needs
@@ -37,16 +49,22 @@ wrong-requires-2 c κs = search needs
 
 returns-2 : tie.Need-returns-2 Inv-loop μ-loop
 returns-2 c =
-    let l = c .before .before .before .before .before .loop in
-    c .wrong2 .ensures ∙ sym (no-digit-low (c .before .before .before .before .before .before .before .before .args .most) (c .before .before .before .before .before .before .before .before .args .word .now) (l .i) (l .v) (c .before .before .wide .result) (c .before .before .before .before .loop-test .taken) (c .before .before .wide .ensures) (c .before .if2 .taken)) ∙ l .inv .2
+    let k = c .before .before in
+    let l = at k .loop in
+    c .wrong2 .ensures
+    ∙ sym (no-digit-low (most (at k)) (word (at k)) (l .i) (l .v) (k .wide .result) (k .before .before .loop-test .taken) (k .wide .ensures) (c .before .if2 .taken))
+    ∙ l .inv .2
 
 wrong-requires-3 : tie.Need-wrong-requires-3 Inv-loop μ-loop
 wrong-requires-3 c κs = search needs
 
 returns-3 : tie.Need-returns-3 Inv-loop μ-loop
 returns-3 c =
-    let l = c .before .before .before .before .before .before .loop in
-    c .wrong3 .ensures ∙ sym (no-digit-high (c .before .before .before .before .before .before .before .before .before .args .most) (c .before .before .before .before .before .before .before .before .before .args .word .now) (l .i) (l .v) (c .before .before .before .wide .result) (c .before .before .before .before .before .loop-test .taken) (c .before .before .before .wide .ensures) (c .before .before .if2 .left) (c .before .if3 .taken)) ∙ l .inv .2
+    let k = c .before .before .before in
+    let l = at k .loop in
+    c .wrong3 .ensures
+    ∙ sym (no-digit-high (most (at k)) (word (at k)) (l .i) (l .v) (k .wide .result) (k .before .before .loop-test .taken) (k .wide .ensures) (c .before .before .if2 .left) (c .before .if3 .taken))
+    ∙ l .inv .2
 
 mul-v : tie.Need-mul-v Inv-loop μ-loop
 mul-v c = search needs
@@ -59,8 +77,11 @@ wrong-requires-4 c κs = search needs
 
 returns-4 : tie.Need-returns-4 Inv-loop μ-loop
 returns-4 c =
-    let l = c .before .before .before .before .before .before .before .loop in
-    c .wrong4 .ensures ∙ sym (too-large (c .before .before .before .before .before .before .before .before .before .before .args .most) (c .before .before .before .before .before .before .before .before .before .before .args .word .now) (l .i) (l .v) (c .before .before .before .before .wide .result) (c .before .before .before .before .before .before .loop-test .taken) (c .before .before .before .before .wide .ensures) (c .before .before .before .if2 .left) (c .before .before .if3 .left) (c .before .if4 .taken)) ∙ l .inv .2
+    let k = c .before .before .before .before in
+    let l = at k .loop in
+    c .wrong4 .ensures
+    ∙ sym (too-large (most (at k)) (word (at k)) (l .i) (l .v) (k .wide .result) (k .before .before .loop-test .taken) (k .wide .ensures) (c .before .before .before .if2 .left) (c .before .before .if3 .left) (c .before .if4 .taken))
+    ∙ l .inv .2
 
 add-i : tie.Need-add-i Inv-loop μ-loop
 add-i c = search needs
@@ -70,13 +91,15 @@ loop-less c = search needs
 
 loop-again : tie.Need-loop-again Inv-loop μ-loop
 loop-again c =
-    let l = c .before .before .before .before .before .before .loop in
-    (omega arith, omega arith, sym (one-more (c .before .before .before .before .before .before .before .before .before .args .most) (c .before .before .before .before .before .before .before .before .before .args .word .now) (l .i) (l .v) (c .before .before .before .wide .result) (c .before .before .before .before .before .loop-test .taken) (c .before .before .before .wide .ensures) (c .before .before .if2 .left) (c .before .if3 .left) (c .if4 .left)) ∙ l .inv .2)
+    let k = c .before .before .before in
+    let l = at k .loop in
+    let more = one-more (most (at k)) (word (at k)) (l .i) (l .v) (k .wide .result) (k .before .before .loop-test .taken) (k .wide .ensures) (c .before .before .if2 .left) (c .before .if3 .left) (c .if4 .left) in
+    (omega arith, omega arith, sym more ∙ l .inv .2)
 
 returns-5 : tie.Need-returns-5 Inv-loop μ-loop
 returns-5 c =
     let l = c .before .loop in
-    sym (all-read (c .before .before .before .before .args .most) (c .before .before .before .before .args .word .now) (l .i) (l .v) (search needs)) ∙ l .inv .2
+    sym (all-read (most (c .before)) (word (c .before)) (l .i) (l .v) (search needs)) ∙ l .inv .2
 
 pub read-word-spec : {M : Type 1} → statement M
 read-word-spec =
