@@ -1,5 +1,5 @@
 // The two counting Bloom filters of each bank, with 16-bit counters: what set-up and the turn of an epoch clear.
-// The estimate of a row and what an activation adds stand in the crate `filter`.
+// The estimate of a row stands in the crate `filter`, what an activation adds in `filter_count`.
 ghost use mathlib.Core.Path.{_≡_};
 ghost use Prim.Native.Nat.{_+_, _*_, _<_, _≤_, _^_};
 ghost use lib.Dec.{ltb};

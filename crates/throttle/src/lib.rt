@@ -33,7 +33,7 @@ pub extern "C" fn throttle_setup(
 ) -> u32
     ensures { λ r. ⌜ left r [] (now (head .exit)) (now (counters .exit)) (now (ticks .exit)) (now (rows .exit)) (now (threads .exit)) ≡ leaves (setup limits01 (settingOf (now (setting .entry))) (now (seeds .entry)) (found (now (head .entry)) (now (counters .entry)) (now (ticks .entry)) (now (rows .entry)) (now (threads .entry)))) [] (now (head .entry)) ⌝ }
 {
-    let cleared = lent_calls::setup(
+    let cleared = lent_setup::setup(
         narrow_limits(),
         setting,
         seeds,
@@ -102,7 +102,7 @@ pub extern "C" fn throttle_done(
 ) -> u32
     ensures { λ r. ⌜ left r [] (now (head .exit)) (now (counters .exit)) (now (ticks .exit)) (now (rows .exit)) (now (threads .exit)) ≡ leaves (step narrow (settingOf (now (setting .entry))) (now (seeds .entry)) (found (now (head .entry)) (now (counters .entry)) (now (ticks .entry)) (now (rows .entry)) (now (threads .entry))) (done tick bank thread)) [] (now (head .entry)) ⌝ }
 {
-    let clocked = lent_calls::done(
+    let clocked = lent_done::done(
         narrow_limits(),
         setting,
         seeds,
@@ -137,7 +137,7 @@ pub extern "C" fn throttle_index(
 ) -> u32
     ensures { λ r. ⌜ left r (now (out .exit)) (now (head .exit)) (now (counters .exit)) (now (ticks .exit)) (now (rows .exit)) (now (threads .exit)) ≡ leaves (step narrow (settingOf (now (setting .entry))) (now (seeds .entry)) (found (now (head .entry)) (now (counters .entry)) (now (ticks .entry)) (now (rows .entry)) (now (threads .entry))) (index tick bank thread)) (now (out .entry)) (now (head .entry)) ⌝ }
 {
-    let reading = lent_calls::index(
+    let reading = lent_index::index(
         narrow_limits(),
         setting,
         seeds,
@@ -169,7 +169,7 @@ pub extern "C" fn throttle_wide_setup(
 ) -> u32
     ensures { λ r. ⌜ left r [] (now (head .exit)) (now (counters .exit)) (now (ticks .exit)) (now (rows .exit)) (now (threads .exit)) ≡ leaves (setup limits02 (settingOf (now (setting .entry))) (now (seeds .entry)) (found (now (head .entry)) (now (counters .entry)) (now (ticks .entry)) (now (rows .entry)) (now (threads .entry)))) [] (now (head .entry)) ⌝ }
 {
-    let cleared = lent_calls::setup(
+    let cleared = lent_setup::setup(
         wide_limits(),
         setting,
         seeds,
@@ -237,7 +237,7 @@ pub extern "C" fn throttle_wide_done(
 ) -> u32
     ensures { λ r. ⌜ left r [] (now (head .exit)) (now (counters .exit)) (now (ticks .exit)) (now (rows .exit)) (now (threads .exit)) ≡ leaves (step wide (settingOf (now (setting .entry))) (now (seeds .entry)) (found (now (head .entry)) (now (counters .entry)) (now (ticks .entry)) (now (rows .entry)) (now (threads .entry))) (done tick bank thread)) [] (now (head .entry)) ⌝ }
 {
-    let clocked = lent_calls::done(
+    let clocked = lent_done::done(
         wide_limits(),
         setting,
         seeds,
@@ -272,7 +272,7 @@ pub extern "C" fn throttle_wide_index(
 ) -> u32
     ensures { λ r. ⌜ left r (now (out .exit)) (now (head .exit)) (now (counters .exit)) (now (ticks .exit)) (now (rows .exit)) (now (threads .exit)) ≡ leaves (step wide (settingOf (now (setting .entry))) (now (seeds .entry)) (found (now (head .entry)) (now (counters .entry)) (now (ticks .entry)) (now (rows .entry)) (now (threads .entry))) (index tick bank thread)) (now (out .entry)) (now (head .entry)) ⌝ }
 {
-    let reading = lent_calls::index(
+    let reading = lent_index::index(
         wide_limits(),
         setting,
         seeds,

@@ -4,10 +4,11 @@ use Rattle.rules.specs.declared.Setting.{Setting}
 use Rattle.rules.specs.Setting.{settingOf}
 use Rattle.rules.specs.Tested.{SetUp}
 use Rattle.filterless.proofs.Requests.{bounds}
-use Rattle.lent_calls.proofs.Leaves.{blank, setup-refused, setup-ok, setup-room, setup-done}
+use Rattle.lent_request.proofs.Counters.{blank}
+use Rattle.lent_setup.proofs.Leaves.{setup-refused, setup-ok, setup-room, setup-done}
 use borrow.Author.Needs.{needs}
-use Rattle.lent_calls.proofs.setup.Statement.{statement}
-use Rattle.lent_calls.proofs.setup.Tie as tie
+use Rattle.lent_setup.proofs.setup.Statement.{statement}
+use Rattle.lent_setup.proofs.setup.Tie as tie
 
 -- the start, from where the code is known and from where it is 0
 abbrev asked : tie.After-lent-refusal → tie.Start

@@ -5,10 +5,11 @@ use Rattle.rules.specs.Setting.{settingOf}
 use Rattle.rules.specs.State.{headOf}
 use Rattle.lent_request.proofs.Settled.{moved-alone}
 use Rattle.filterless.proofs.Requests.{bounds}
-use Rattle.lent_calls.proofs.Leaves.{room, done-refused, done-ok, done-done}
+use Rattle.lent_request.proofs.Counters.{room}
+use Rattle.lent_done.proofs.Leaves.{done-refused, done-ok, done-done}
 use borrow.Author.Needs.{needs}
-use Rattle.lent_calls.proofs.done.Statement.{statement}
-use Rattle.lent_calls.proofs.done.Tie as tie
+use Rattle.lent_done.proofs.done.Statement.{statement}
+use Rattle.lent_done.proofs.done.Tie as tie
 
 -- the start, from where the code is known and from where it is 0
 abbrev asked : tie.After-done-refusal → tie.Start

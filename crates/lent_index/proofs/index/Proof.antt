@@ -6,10 +6,11 @@ use Rattle.rules.specs.State.{headOf}
 use Rattle.rules.specs.Tested.{Taken}
 use Rattle.lent_request.proofs.Settled.{moved-alone}
 use Rattle.filterless.proofs.Requests.{bounds}
-use Rattle.lent_calls.proofs.Leaves.{blank, room, index-refused, index-ok, index-done}
+use Rattle.lent_request.proofs.Counters.{blank, room}
+use Rattle.lent_index.proofs.Leaves.{index-refused, index-ok, index-done}
 use borrow.Author.Needs.{needs}
-use Rattle.lent_calls.proofs.index.Statement.{statement}
-use Rattle.lent_calls.proofs.index.Tie as tie
+use Rattle.lent_index.proofs.index.Statement.{statement}
+use Rattle.lent_index.proofs.index.Tie as tie
 
 -- the start, from where the code is known and from where it is 0
 abbrev asked : tie.After-call-refusal → tie.Start
