@@ -3,7 +3,7 @@
 //! seeds play no part, and the limits are those of the new width.
 
 use crate::fault::Fault;
-use crate::limits::{of_span, NEW};
+use crate::limits::of_span;
 use crate::plan::delays;
 use crate::setting::{accept, row_bound, Config, Setting};
 
@@ -48,7 +48,7 @@ fn of_setting(setting: &Setting, fault: Fault) -> u32 {
     }
     let config = Config::new(setting, &[0; 64]).within(of_span(fault));
     if fault == Fault::SpanRefusesAsPlanner {
-        return delays(&config.within(NEW), &mut [0; 2]);
+        return delays(&config, &mut [0; 2]);
     }
     let refused = accept(&config.with(in_setting(fault))).err();
     refused.unwrap_or(0)
