@@ -72,6 +72,24 @@ static void check_planner(void)
     setting[4] = delays[0];
 }
 
+/* With the delay 6 the bound of W ticks is B = 10; a tick has one activation; five small banks and 0 ticks are refused. */
+static void check_spans(void)
+{
+    uint64_t bound[THROTTLE_SPAN_OUT] = {7};
+    check(throttle_span_bound(setting, s.w, bound) == 0 && bound[0] == 10, "throttle_span_bound does not answer 10 for W");
+    check(throttle_span_bound(setting, 1, bound) == 0 && bound[0] == 1, "throttle_span_bound does not answer 1 for a tick");
+    check(throttle_span_bound(setting, UINT64_MAX, bound) == 0 && bound[0] == UINT64_C(3843071682022823255),
+          "throttle_span_bound does not answer the bound of 2^64 - 1 ticks");
+    bound[0] = 7;
+    check(throttle_span_bound(setting, 0, bound) == THROTTLE_OUT_OF_RANGE, "throttle_span_bound takes 0 ticks");
+    setting[7] = THROTTLE_SMALL_BANKS + 1;
+    setting[THROTTLE_SETTING_WORDS - 1] = THROTTLE_PROFILE_SMALL;
+    check(throttle_span_bound(setting, s.w, bound) == THROTTLE_ABOVE_PROFILE, "throttle_span_bound takes five small banks");
+    check(bound[0] == 7, "a refused throttle_span_bound writes to out");
+    setting[7] = s.banks;
+    setting[THROTTLE_SETTING_WORDS - 1] = THROTTLE_PROFILE_LARGE;
+}
+
 /* The first request under this mark is opened. */
 static void check_throttle(uint64_t mark)
 {
@@ -161,6 +179,7 @@ int main(int count, char **arguments)
     throttle_house_seeds(seeds);
     check(count == 2 && first_block(arguments[1], sample), "the sample log cannot be read");
     check_planner();
+    check_spans();
     check_weak_chip();
     check_throttle(THROTTLE_PROFILE_LARGE);
     check_throttle(THROTTLE_PROFILE_SMALL);

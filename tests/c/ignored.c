@@ -9,7 +9,7 @@
 
 static uint64_t setting[THROTTLE_SETTING_WORDS], head[THROTTLE_HEAD_CELLS], ticks[8];
 static uint64_t out[THROTTLE_REQUEST_OUT], index_out[THROTTLE_INDEX_OUT];
-static uint64_t delays[THROTTLE_DELAYS_OUT];
+static uint64_t delays[THROTTLE_DELAYS_OUT], bound[THROTTLE_SPAN_OUT];
 static uint16_t seeds[THROTTLE_SEEDS], counters[2048], row;
 static uint32_t rows[8], threads[3], wide_counters[2048];
 static uint8_t block[THROTTLE_LOG_BLOCK];
@@ -77,6 +77,9 @@ static void beside_state(void)
 #ifdef IGNORE_throttle_wide_delays
     throttle_wide_delays(setting, delays);
 #endif
+#ifdef IGNORE_throttle_span_bound
+    throttle_span_bound(setting, 40, bound);
+#endif
 }
 
 int main(void)
@@ -88,5 +91,5 @@ int main(void)
     return throttle_setup(STATE) + throttle_request(STATE, 0, 0, 0, 5, out) + throttle_row(5, &row) +
            throttle_index(STATE, 0, 0, 0, index_out) + throttle_delays(setting, delays) +
            throttle_wide_delays(setting, delays) + throttle_log_seal(block, 1, 1) + throttle_change_over(OLD_STATE) +
-           throttle_wide_setup(WIDE_STATE) > 0;
+           throttle_wide_setup(WIDE_STATE) + throttle_span_bound(setting, 40, bound) > 0;
 }

@@ -23,6 +23,7 @@ enum {
     LOG_SETTING,
     PLAN_SETTING,
     WIDE_PLAN_SETTING,
+    SPAN_SETTING,
     WORDS,
     HEAD,
     WIDE_HEAD,
@@ -33,6 +34,7 @@ enum {
     WIDE_INDEX_OUT,
     DELAYS_OUT,
     WIDE_DELAYS_OUT,
+    SPAN_OUT,
     BLOCK
 };
 #ifndef SHORT
@@ -52,6 +54,7 @@ static uint64_t change_setting[LENGTH(CHANGE_SETTING, THROTTLE_SETTING_WORDS)];
 static uint64_t log_setting[LENGTH(LOG_SETTING, THROTTLE_SETTING_WORDS)];
 static uint64_t plan_setting[LENGTH(PLAN_SETTING, THROTTLE_SETTING_WORDS)];
 static uint64_t wide_plan_setting[LENGTH(WIDE_PLAN_SETTING, THROTTLE_SETTING_WORDS)];
+static uint64_t span_setting[LENGTH(SPAN_SETTING, THROTTLE_SETTING_WORDS)];
 static uint64_t words[LENGTH(WORDS, THROTTLE_SETTING_WORDS)];
 static uint64_t head[LENGTH(HEAD, THROTTLE_HEAD_CELLS)];
 static uint64_t wide_head[LENGTH(WIDE_HEAD, THROTTLE_HEAD_CELLS)];
@@ -62,6 +65,7 @@ static uint64_t wide_request_out[LENGTH(WIDE_REQUEST_OUT, THROTTLE_REQUEST_OUT)]
 static uint64_t wide_index_out[LENGTH(WIDE_INDEX_OUT, THROTTLE_INDEX_OUT)];
 static uint64_t delays_out[LENGTH(DELAYS_OUT, THROTTLE_DELAYS_OUT)];
 static uint64_t wide_delays_out[LENGTH(WIDE_DELAYS_OUT, THROTTLE_DELAYS_OUT)];
+static uint64_t span_out[LENGTH(SPAN_OUT, THROTTLE_SPAN_OUT)];
 static uint8_t block[LENGTH(BLOCK, THROTTLE_LOG_BLOCK)];
 
 static uint16_t seeds[THROTTLE_SEEDS], counters[2048];
@@ -86,5 +90,6 @@ uint32_t call_all(const struct throttle_setting *s)
            throttle_wide_done(WIDE_STATE(wide_done_setting), 0, 0, 0) +
            throttle_wide_index(WIDE_STATE(wide_index_setting), 0, 0, 0, wide_index_out) +
            throttle_change_over(OLD_STATE) + throttle_log_start(log_setting, seeds, THROTTLE_SEEDS, block) +
-           throttle_delays(plan_setting, delays_out) + throttle_wide_delays(wide_plan_setting, wide_delays_out);
+           throttle_delays(plan_setting, delays_out) + throttle_wide_delays(wide_plan_setting, wide_delays_out) +
+           throttle_span_bound(span_setting, 40, span_out);
 }

@@ -1,5 +1,5 @@
 //! Adversaries: programs that activate rows as often as the answers allow, and
-//! the most activations of one row in W successive ticks that they reach.
+//! the most activations of one row in a span that they reach.
 
 use crate::call::{Call, Kind};
 use crate::numbers::Numbers;
@@ -53,13 +53,13 @@ pub fn hammer(side: &mut impl Side, setting: &Setting, plan: &Plan) -> Vec<u64> 
 }
 
 /// Hammers a few rows in all banks at random: mostly as early as allowed, at
-/// times after a pause. Returns the most activations of one row in W ticks.
+/// times after a pause. Returns the ticks of all activations, row by row.
 pub fn hammer_at_random(
     side: &mut impl Side,
     setting: &Setting,
     numbers: &mut Numbers,
     calls: u64,
-) -> usize {
+) -> Vec<Vec<u64>> {
     let number = side.call(&Call::SETUP).number;
     assert_eq!(number, 0, "set-up of {setting:?}");
     let mut opened: HashMap<(u64, u16), Vec<u64>> = HashMap::new();
@@ -81,11 +81,7 @@ pub fn hammer_at_random(
             tick += numbers.within(1, setting[W] / 2);
         }
     }
-    opened
-        .values()
-        .map(|ticks| most_in(ticks, setting[W]))
-        .max()
-        .unwrap_or(0)
+    opened.into_values().collect()
 }
 
 /// Requests a row for one thread after the other until one isn't held by its
@@ -125,12 +121,12 @@ fn next_turn(setting: &Setting, tick: u64) -> u64 {
     (tick / epoch + 1) * epoch
 }
 
-/// The most of these rising ticks that lie within w successive ticks.
-pub fn most_in(ticks: &[u64], w: u64) -> usize {
+/// The most of these rising ticks that lie within X successive ticks.
+pub fn most_in(ticks: &[u64], x: u64) -> usize {
     let mut first = 0;
     let mut most = 0;
     for (place, &tick) in ticks.iter().enumerate() {
-        while tick - ticks[first] >= w {
+        while tick - ticks[first] >= x {
             first += 1;
         }
         most = most.max(place + 1 - first);

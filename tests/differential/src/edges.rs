@@ -53,7 +53,7 @@ fn note(counts: &mut [u64; 7], number: u32) {
 
 /// Settings at the bounds of each width, those of the old one first with its limits
 /// of N and H moved to both sides of each width's.
-fn settings() -> Vec<Setting> {
+pub fn settings() -> Vec<Setting> {
     let mut settings = Vec::new();
     for base in bases(&NEW) {
         for limits in [OLD, NEW] {

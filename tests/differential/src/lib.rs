@@ -1,8 +1,8 @@
 //! Tests of the compiled library from outside. It is compared, call by call,
 //! with the second implementation, which was written from the specification
 //! alone; and it is attacked by programs that try to activate a row more often
-//! than the setting allows. Block 0 of the log writer and the planner are
-//! compared too.
+//! than the setting allows. Block 0 of the log writer and the planner's calls
+//! are compared too.
 //!
 //! The throttle is compared in both widths, and so are the change-over and what a
 //! state that was taken over answers.
@@ -26,8 +26,11 @@
 //! - `hashes`, `near_house`: the house seeds, seeds next to them and others
 //! - `twins`: one setting under both profiles
 //! - `writer`, `planner`: block 0 of logs, and the delays of settings
-//! - `adversary`, `crossed`: rows hammered as often as the answers allow, also across
-//!   a change-over
+//! - `spans`: the bound of spans of every length
+//! - `orders`: groups of activations in several orders, and what the filters hold
+//!   after them
+//! - `adversary`, `crossed`, `reached`: rows hammered as often as the answers allow,
+//!   also across a change-over, and the most activations in spans of every length
 
 pub mod adversary;
 pub mod beside;
@@ -48,12 +51,15 @@ mod mark_tally;
 mod memory;
 mod near_house;
 pub mod numbers;
+pub mod orders;
 pub mod pair;
 pub mod planner;
 mod profiles;
+pub mod reached;
 pub mod rings;
 pub mod settings;
 pub mod side;
+pub mod spans;
 pub mod tally;
 pub mod twins;
 mod walk;

@@ -81,6 +81,8 @@ extern "C" {
     fn throttle_delays(setting: *const u64, out: *mut u64) -> u32;
 
     fn throttle_wide_delays(setting: *const u64, out: *mut u64) -> u32;
+
+    fn throttle_span_bound(setting: *const u64, x: u64, out: *mut u64) -> u32;
 }
 
 /// Calls a function of the library on the memory with these counters, with further
@@ -226,4 +228,11 @@ pub fn delays(limits: &Limits, setting: &Guarded<u64>, out: &mut Guarded<u64>) -
             throttle_delays(setting, out)
         }
     }
+}
+
+/// The bound of a span for a setting of ten words; out has one.
+pub fn span_bound(setting: &Guarded<u64>, x: u64, out: &mut Guarded<u64>) -> u32 {
+    assert_eq!((setting.cells().len(), out.cells().len()), (10, 1));
+    // The pointers are those of live, separate buffers of these lengths.
+    unsafe { throttle_span_bound(setting.cells().as_ptr(), x, out.cells_mut().as_mut_ptr()) }
 }

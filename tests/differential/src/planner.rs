@@ -46,7 +46,7 @@ pub fn compare(seed: u64, limits: Limits, fault: Fault) -> Result<Told, String> 
 }
 
 /// A setting whose delay is of no meaning; L is at times next to 2N + 1.
-fn any(numbers: &mut Numbers, limits: &Limits) -> Setting {
+pub fn any(numbers: &mut Numbers, limits: &Limits) -> Setting {
     let most = if *limits == NEW { 8 } else { 6 };
     let mut setting = match numbers.within(0, most) {
         0 => small(numbers),

@@ -1,5 +1,5 @@
 //! Plausible wrong behaviours of the throttle, the log checker, the log writer
-//! and the planner. A test campaign switches on one of them and asks whether it
+//! and the planner's calls. A test campaign switches on one of them and asks whether it
 //! would notice. `Fault::None` is the plain specification.
 //!
 //! - `CALLS`: of the four calls, but for the lists from `LEFT` to `SMALL`
@@ -16,6 +16,10 @@
 //! - `PLAN_LIMITS`: of the limits of a width in the planner
 //! - `LOG_LIMITS`: of the limits in the log checker
 //! - `CHANGE`: of the change-over
+//! - `SPAN`: of the bound of a span of ticks
+//! - `SPAN_REFUSALS`: of the refusals of the call that gives it
+//! - `SEEDS`: of the hash by the seed rule, shown under other than the house seeds
+//! - `ORDER`: of the filters, which depend on the order of the activations
 //!
 //! The listings are in files of their own, and `listing` makes the enum from them.
 
@@ -31,11 +35,13 @@ mod profile;
 mod width;
 #[macro_use]
 mod change;
+#[macro_use]
+mod span;
 
 joined! {
     [
         faults_of_calls faults_of_left faults_of_hash faults_of_profile faults_of_width
-        faults_of_change
+        faults_of_change faults_of_span
     ]
     {}
 }

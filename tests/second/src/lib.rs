@@ -9,6 +9,7 @@
 //! - `state`: the lent memory and refusals 6 and 7
 //! - `clock`: epochs and the clearing at an epoch turn
 //! - `filter`: the counting Bloom filters and the estimate they report
+//! - `by_order`: wrong filters, which depend on the order of the activations
 //! - `table`: the hash by bytes, under the house seeds
 //! - `decision`: the rules about a request and what an activation writes
 //! - `left`: the openings left that a request reports
@@ -18,12 +19,14 @@
 //! - `log`: the log checker
 //! - `write`: the log writer and an encoder for logs
 //! - `plan`: the planner, that is the delays with which a setting is accepted
+//! - `span`: the most activations of a row in a span of any length
 //! - `fault`: wrong behaviours that can be switched on, one at a time, made by
 //!   `listing` from the lists under `fault`
 
 #[macro_use]
 mod listing;
 
+mod by_order;
 pub mod change;
 mod clock;
 pub mod decision;
@@ -37,6 +40,7 @@ pub mod plan;
 pub mod profile;
 pub mod quota;
 pub mod setting;
+pub mod span;
 pub mod state;
 pub mod table;
 pub mod write;
@@ -46,4 +50,5 @@ pub use fault::Fault;
 pub use limits::{Limits, NEW, OLD};
 pub use model::{done, index, request, setup};
 pub use setting::{Config, Setting};
+pub use span::span_bound;
 pub use state::State;

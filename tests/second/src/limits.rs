@@ -129,6 +129,19 @@ pub fn of_checker(fault: Fault) -> Limits {
     }
 }
 
+/// Of the bound of a span: those of the new width.
+pub fn of_span(fault: Fault) -> Limits {
+    match fault {
+        Fault::SpanOldThreshold => with_threshold(NEW, OLD.threshold),
+        Fault::SpanOldHistory => with_history(NEW, OLD.history),
+        Fault::SpanThresholdExcluded => with_threshold(NEW, NEW.threshold - 1),
+        Fault::SpanThresholdOneMore => with_threshold(NEW, NEW.threshold + 1),
+        Fault::SpanHistoryExcluded => with_history(NEW, NEW.history - 1),
+        Fault::SpanHistoryOneMore => with_history(NEW, NEW.history + 4),
+        _ => NEW,
+    }
+}
+
 /// What a wrong behaviour of one width alone is at a width.
 pub fn at_width(fault: Fault, wide: bool) -> Fault {
     match (fault, wide) {

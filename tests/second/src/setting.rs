@@ -183,9 +183,17 @@ fn long_history(config: &Config) -> bool {
     history_length(config).is_none_or(|h| h > u128::from(most))
 }
 
-/// The refusals of the setting, in the order in which they are tested.
+/// The refusals of the setting, in the order in which they are tested. A fault that
+/// leaves one out has 1 in its place, which was tested before.
 fn order(fault: Fault) -> [u32; 6] {
     match fault {
+        Fault::SpanTwoLeftOut => [1, 1, 3, 4, 5, 16],
+        Fault::SpanThreeLeftOut => [1, 2, 1, 4, 5, 16],
+        Fault::SpanFourLeftOut => [1, 2, 3, 1, 5, 16],
+        Fault::SpanFiveLeftOut => [1, 2, 3, 4, 1, 16],
+        Fault::SpanSixteenLeftOut => [1, 2, 3, 4, 5, 1],
+        Fault::SpanThreeBeforeTwo => [1, 3, 2, 4, 5, 16],
+        Fault::SpanFiveBeforeFour => [1, 2, 3, 5, 4, 16],
         Fault::ProfileBeforeTwo => [1, 16, 2, 3, 4, 5],
         Fault::ProfileBeforeFour => [1, 2, 3, 16, 4, 5],
         Fault::ProfileBeforeFive => [1, 2, 3, 4, 16, 5],

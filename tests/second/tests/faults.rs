@@ -1,6 +1,7 @@
 //! Every wrong behaviour of the calls that can be switched on shows in a campaign
 //! of small runs, on memory set up and on memory of any contents. Those of the
-//! hash by bytes, of the profile mark and of the widths have tests of their own.
+//! hash by bytes, of the profile mark, of the widths and of spans have tests of
+//! their own.
 
 mod common;
 
@@ -70,6 +71,10 @@ fn every_fault_belongs_to_a_part() {
         Fault::PLAN_LIMITS,
         Fault::LOG_LIMITS,
         Fault::CHANGE,
+        Fault::SPAN,
+        Fault::SPAN_REFUSALS,
+        Fault::SEEDS,
+        Fault::ORDER,
     ];
     assert_eq!(parts.concat(), Fault::ALL);
 }

@@ -1,16 +1,19 @@
 //! Attacks the limit from outside: greedy and random adversaries hammer rows
 //! through the library on small settings with L at the row bound B, in the old
 //! width, in the new one and across a change-over. No row may be activated more
-//! than B times in W successive ticks. The same adversaries on faulty
-//! implementations must get above B. Argument, optional: the seed.
+//! than B times in W successive ticks, and in a span of any other length more often
+//! than the library says of it. The same adversaries on faulty implementations must
+//! get above B, and above wrong bounds of spans. Argument, optional: the seed.
 
 use differential::adversary::{hammer, hammer_at_random, most_in, Plan, ROW};
 use differential::call::Call;
 use differential::crossed::Crossed;
 use differential::lent::Lent;
 use differential::numbers::Numbers;
+use differential::reached::{spans_hold, too_low_seen, Reached};
 use differential::settings::{bound, seeds, BANKS, L, N, TD, TRC, W};
 use differential::side::{Library, Saved, Second, Side};
+use differential::spans::of_library;
 use differential::wide::CHIP;
 use second::filter::hash;
 use second::setting::house_seeds;
@@ -58,11 +61,12 @@ enum Way {
     Across,
 }
 
-/// The most activations found on one setting.
+/// The most activations found on one setting, in W ticks and in every span.
 struct Found {
     setting: Setting,
     bound: usize,
     most: usize,
+    reached: Reached,
 }
 
 fn main() -> ExitCode {
@@ -120,11 +124,10 @@ fn colliding(numbers: &mut Numbers) -> Vec<u16> {
     }
 }
 
-/// The most activations in W ticks over all adversaries.
-fn most(side: &mut impl Side, setting: &Setting, numbers: &mut Numbers) -> usize {
+/// Notes what all adversaries reach.
+fn attack(side: &mut impl Side, setting: &Setting, numbers: &mut Numbers, reached: &mut Reached) {
     let (w, epoch) = (setting[W], setting[W] / 2);
     let step = (epoch / 16).max(1) as usize;
-    let mut most = 0;
     for start in (epoch..2 * epoch).step_by(step) {
         for first in 1..=setting[N] as usize + 1 {
             for pause in (0..=w).step_by(step) {
@@ -135,55 +138,60 @@ fn most(side: &mut impl Side, setting: &Setting, numbers: &mut Numbers) -> usize
                     pause,
                     end,
                 };
-                most = most.max(most_in(&hammer(side, setting, &plan), w));
+                reached.note(&hammer(side, setting, &plan));
             }
         }
     }
     for _ in 0..4 {
-        most = most.max(hammer_at_random(side, setting, numbers, 2_000));
+        let rows = hammer_at_random(side, setting, numbers, 2_000);
+        rows.iter().for_each(|ticks| reached.note(ticks));
     }
-    most
 }
 
 /// The same on a side that is made from what it works on, in a width or across a
 /// change-over at each of some ticks: before an epoch turn, at it and after it.
-fn most_by<S: Saved>(
+fn reached_by<S: Saved>(
     way: Way,
     make: impl Fn(&Lent) -> S,
     setting: &Setting,
     numbers: &mut Numbers,
-) -> usize {
+) -> Reached {
     let seeds = colliding(numbers);
     let side = |limits: Limits| make(&Lent::exact(limits, *setting, seeds.clone()));
+    let mut reached = Reached::new(setting);
     match way {
-        Way::Old => most(&mut side(OLD), setting, numbers),
-        Way::New => most(&mut side(NEW), setting, numbers),
+        Way::Old => attack(&mut side(OLD), setting, numbers, &mut reached),
+        Way::New => attack(&mut side(NEW), setting, numbers, &mut reached),
         Way::Across => {
             let epoch = setting[W] / 2;
             let mut crossed = Crossed::new(side(OLD), setting[BANKS]);
-            let mut at = |tick| {
+            for tick in [3 * epoch - 1, 3 * epoch, 3 * epoch + epoch / 2] {
                 crossed.at = tick;
-                most(&mut crossed, setting, numbers)
-            };
-            let ticks = [3 * epoch - 1, 3 * epoch, 3 * epoch + epoch / 2];
-            ticks.map(&mut at).into_iter().max().unwrap_or(0)
+                attack(&mut crossed, setting, numbers, &mut reached);
+            }
         }
     }
+    reached
 }
 
-/// Attacks the library on every setting; no row gets above B.
+/// Attacks the library on every setting; no row gets above B, nor above the bound of
+/// another span.
 fn limits_hold(numbers: &mut Numbers, way: Way, settings: &[Setting]) -> bool {
     let mut found = Vec::new();
     for setting in settings {
-        let most = most_by(way, Library::new, setting, numbers);
+        let reached = reached_by(way, Library::new, setting, numbers);
         let bound = bound(setting).expect("accepted") as usize;
         found.push(Found {
             setting: *setting,
             bound,
-            most,
+            most: reached.most(setting[W]),
+            reached,
         });
     }
     report(way, &found);
+    let reached: Vec<Reached> = found.iter().map(|found| found.reached.clone()).collect();
+    let spans = spans_hold(&format!("{way:?}"), &reached)
+        && (!matches!(way, Way::Old) || too_low_seen(&reached));
     let listed = found
         .iter()
         .zip(LISTED_MOST)
@@ -193,6 +201,7 @@ fn limits_hold(numbers: &mut Numbers, way: Way, settings: &[Setting]) -> bool {
         setting,
         bound,
         most,
+        ..
     }) = above
     {
         println!("  ABOVE THE BOUND: {most} of {bound} on {setting:?}");
@@ -201,7 +210,7 @@ fn limits_hold(numbers: &mut Numbers, way: Way, settings: &[Setting]) -> bool {
         let most: Vec<usize> = found.iter().map(|found| found.most).collect();
         println!("  NOT AS LISTED: the most activations of the first settings, {most:?}");
     }
-    listed && above.is_none()
+    listed && spans && above.is_none()
 }
 
 /// Prints how near the attacks came to the bound.
@@ -222,6 +231,7 @@ fn report(way: Way, found: &[Found]) {
         setting,
         bound,
         most,
+        ..
     }) = closest
     {
         println!("  closest with tD above tRC: {most} of {bound} on {setting:?}");
@@ -230,6 +240,7 @@ fn report(way: Way, found: &[Found]) {
         setting,
         bound,
         most,
+        ..
     } = &found[0];
     println!("  setting S: {most} of {bound} on {setting:?}");
 }
@@ -243,7 +254,8 @@ fn faults_seen(numbers: &mut Numbers, settings: &[Setting]) -> bool {
                 lent: lent.clone(),
                 fault,
             };
-            most_by(Way::Old, faulty, setting, numbers) as u64 > bound(setting).unwrap_or(0)
+            let reached = reached_by(Way::Old, faulty, setting, numbers);
+            reached.most(setting[W]) as u64 > bound(setting).unwrap_or(0)
         });
         if !above {
             println!("  {fault:?}: NOT SEEN");
@@ -267,7 +279,8 @@ fn changes_seen() -> bool {
         };
         let mut crossed = Crossed::new(faulty, setting[BANKS]);
         crossed.at = 3 * epoch + setting[N] - 2;
-        bursts(&mut crossed, &setting, 2 * epoch) as u64 > setting[L]
+        let ticks = bursts(&mut crossed, &setting, 2 * epoch);
+        most_in(&ticks, setting[W]) as u64 > setting[L]
     };
     let seen = UNSAFE_CHANGES.iter().filter(|fault| above(fault)).count();
     println!(
@@ -303,15 +316,37 @@ fn chip() -> bool {
     number == 4 && most == 911
 }
 
-/// The same two bursts through the library in a width.
+/// The same two bursts through the library in a width, and the most activations in W
+/// ticks; 0 if there are more in some span than the library says of it.
 fn through_library(limits: Limits, setting: &Setting) -> usize {
     let mut library = Library::new(&Lent::exact(limits, *setting, house_seeds()));
-    bursts(&mut library, setting, 3 * (setting[W] / 2))
+    let ticks = bursts(&mut library, setting, 3 * (setting[W] / 2));
+    let [w, trc, _, n, td, ..] = *setting;
+    let spans = [
+        1,
+        trc,
+        trc + 1,
+        n * trc,
+        n * trc + 1,
+        n * trc + td,
+        w / 2,
+        w / 2 + 1,
+        w / 2 + 2,
+        w,
+    ];
+    for x in spans {
+        let (most, bound) = (most_in(&ticks, x), of_library(setting, x));
+        if most as u64 > bound {
+            println!("  ABOVE THE BOUND OF A SPAN: {most} of {bound} in {x} ticks on {setting:?}");
+            return 0;
+        }
+    }
+    most_in(&ticks, w)
 }
 
-/// The most activations in W ticks if N of them, tRC apart, end with the epoch
-/// before a turn and the others come as early as allowed.
-fn bursts(side: &mut impl Side, setting: &Setting, turn: u64) -> usize {
+/// The ticks of the activations if N of them, tRC apart, end with the epoch before a
+/// turn and the others come as early as allowed, in W ticks.
+fn bursts(side: &mut impl Side, setting: &Setting, turn: u64) -> Vec<u64> {
     let start = turn - 1 - (setting[N] - 1) * setting[TRC];
     let plan = Plan {
         start,
@@ -319,5 +354,5 @@ fn bursts(side: &mut impl Side, setting: &Setting, turn: u64) -> usize {
         pause: 0,
         end: start + setting[W],
     };
-    most_in(&hammer(side, setting, &plan), setting[W])
+    hammer(side, setting, &plan)
 }

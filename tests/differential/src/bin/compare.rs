@@ -1,9 +1,10 @@
 //! Compares the library with the second implementation after every call of a
 //! campaign in each width, on listed histories and counters, on settings at bounds,
 //! and under the house seeds and seeds next to them; the change-over, alone and in
-//! lists of calls; the library with itself under both profiles and in both widths
-//! after a change-over; and the log writer and the planner. Arguments, both
-//! optional: the seed and the number of runs in the old width.
+//! lists of calls; the library with itself under both profiles, in both widths after
+//! a change-over and with activations in several orders; the log writer, the planner
+//! and the bounds of spans. Arguments, both optional: the seed and the number of runs
+//! in the old width.
 
 use differential::campaign::Campaign;
 use differential::hashes::Sides;
@@ -12,7 +13,8 @@ use differential::settings::{accepted, bases};
 use differential::side::Library;
 use differential::tally::{Tally, LEAST};
 use differential::{
-    beside, change_refusals, crossing, edges, far, hashes, levels, planner, rings, twins, writer,
+    beside, change_refusals, crossing, edges, far, hashes, levels, orders, planner, rings, spans,
+    twins, writer,
 };
 use second::{Fault, Limits, NEW, OLD};
 use std::fmt::Debug;
@@ -46,7 +48,9 @@ fn main() -> ExitCode {
         && at_edges()
         && changed(seed)
         && written(seed)
-        && both.into_iter().all(|limits| planned(seed, limits));
+        && both.into_iter().all(|limits| planned(seed, limits))
+        && spanned(seed)
+        && both.into_iter().all(|limits| ordered(seed, limits));
     if !same {
         println!("compare: FAILED");
         return ExitCode::FAILURE;
@@ -207,5 +211,35 @@ fn planned(seed: u64, limits: Limits) -> bool {
         let of = |mark: usize| planner::NUMBERS.map(|number| told.numbers[mark][number]);
         let both = [of(0)[..6].to_vec(), of(1).to_vec()].concat();
         both.iter().all(|&count| count > LEAST) && told.fewer > LEAST
+    })
+}
+
+/// Compares the bounds of spans. Every number is to come under both profiles, but 16
+/// under the large one, and both forms of the bound, with spans of every kind.
+fn spanned(seed: u64) -> bool {
+    none(
+        "bounds of spans",
+        spans::compare(seed, Fault::None),
+        |told| {
+            let of = |mark: usize| planner::NUMBERS.map(|number| told.numbers[mark][number]);
+            let kinds = [told.late, told.whole, told.great, told.wide];
+            let both = [&of(0)[..6], &of(1), &told.forms, &kinds, &told.zero].concat();
+            both.iter().all(|&count| count > LEAST)
+        },
+    )
+}
+
+/// Compares the filters of the library after groups in several orders, and after
+/// lists of calls with those of the second implementation.
+fn ordered(seed: u64, limits: Limits) -> bool {
+    let groups = orders::groups(seed, limits, Library::new);
+    let lists = orders::lists(seed, limits, Library::new);
+    let name = width(limits);
+    none(&format!("orders of activations, {name}"), groups, |told| {
+        let kinds = [told.apart, told.whole, told.above, told.filled];
+        told.groups > 1_000 && told.compared > 5_000 && kinds.iter().all(|&count| count > LEAST)
+    }) && none(&format!("filters after lists, {name}"), lists, |told| {
+        let kinds = [told.opened, told.held, told.others, told.refused];
+        told.lists > 1_000 && kinds.iter().all(|&count| count > 1_000)
     })
 }

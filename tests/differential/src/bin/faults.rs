@@ -1,7 +1,8 @@
 //! Shows that the comparison sees: the library against the second
 //! implementation with one fault switched on must differ, for each fault of the
-//! calls in each width, of the hash by bytes, of the change-over, of the log writer
-//! and of the planner. Those of the log checker are shown by tests/log/run.
+//! calls in each width, of the hash by bytes, of the change-over, of the log writer,
+//! of the planner and of the bounds of spans. Those of the log checker are shown by
+//! tests/log/run.
 //! Argument, optional: the seed.
 
 use differential::campaign::Campaign;
@@ -12,7 +13,8 @@ use differential::rings::By;
 use differential::side::Second;
 use differential::tally::Tally;
 use differential::{
-    beside, change_refusals, crossing, edges, far, hashes, levels, planner, rings, twins, writer,
+    beside, change_refusals, crossing, edges, far, hashes, levels, orders, planner, rings, spans,
+    twins, writer,
 };
 use second::{Fault, Limits, NEW, OLD};
 use std::ops::Range;
@@ -22,7 +24,7 @@ use std::process::ExitCode;
 const FIRST: u64 = 300;
 const RUNS: u64 = 5_000;
 /// Faults that are to be planted at least, those of both widths twice.
-const FAULTS: usize = 490;
+const FAULTS: usize = 640;
 /// Bits of the 64 seeds, up to 1,023.
 const BITS: usize = 64 * hashes::BITS as usize;
 /// Wrong histories in refusal 7, which the change-over has to show too.
@@ -56,6 +58,19 @@ const BESIDE: [Fault; 16] = [
     Fault::ChangeClipped,
 ];
 
+/// Wrong counts that do not depend on the order of the activations, which the filters
+/// after a list have to show too.
+const COUNTS: [Fault; 8] = [
+    Fault::CountsWaits,
+    Fault::CountsQuota,
+    Fault::CountsRefused,
+    Fault::AddsTwiceToShared,
+    Fault::CountsAtThreshold,
+    Fault::FilterZeroTwice,
+    Fault::HouseAlwaysInCount,
+    Fault::SeedsOred,
+];
+
 fn main() -> ExitCode {
     let seed = std::env::args()
         .nth(1)
@@ -74,6 +89,9 @@ fn main() -> ExitCode {
     planted.all(&BESIDE, |fault| {
         beside::compare(seed, |lent| faulty(lent, fault)).err()
     });
+    println!("faults: bounds of spans");
+    let bounds = [Fault::SPAN, Fault::SPAN_REFUSALS].concat();
+    planted.all(&bounds, |fault| spans::compare(seed, fault).err());
     let Planted { many, caught } = planted;
     println!("faults: {caught} of {many} caught");
     let bits = bits_seen(seed);
@@ -120,6 +138,10 @@ fn every_list() -> bool {
         Fault::OLD_WIDTH,
         Fault::PLAN_LIMITS,
         Fault::CHANGE,
+        Fault::SPAN,
+        Fault::SPAN_REFUSALS,
+        Fault::SEEDS,
+        Fault::ORDER,
     ];
     let by_logs = Fault::CHECKER.len() + Fault::LOG_LIMITS.len();
     here.concat().len() + by_logs == Fault::ALL.len()
@@ -133,6 +155,8 @@ fn of_width(seed: u64, limits: Limits, own: &[Fault], planted: &mut Planted) {
     let shared = [Fault::CALLS, Fault::LEFT, Fault::PROFILE, Fault::SMALL].concat();
     planted.all(&shared, |fault| in_calls(&campaign, limits, fault));
     planted.all(own, |fault| in_calls(&campaign, limits, fault));
+    let filters = [Fault::SEEDS, Fault::ORDER].concat();
+    planted.all(&filters, |fault| in_calls(&campaign, limits, fault));
     let hashed = [Fault::TABLE, Fault::HOUSE].concat();
     planted.all(&hashed, |fault| {
         hashes::compare(seed, Sides { limits, fault }).err()
@@ -142,6 +166,14 @@ fn of_width(seed: u64, limits: Limits, own: &[Fault], planted: &mut Planted) {
     println!("faults: {name} width, the profiles beside each other");
     planted.all(Fault::SMALL, |fault| {
         twins::compare(seed, limits, |lent| faulty(lent, fault)).err()
+    });
+    println!("faults: {name} width, groups in several orders, and filters after lists");
+    planted.all(Fault::ORDER, |fault| {
+        orders::groups(seed, limits, |lent| faulty(lent, fault)).err()
+    });
+    let counts = [Fault::ORDER, &COUNTS].concat();
+    planted.all(&counts, |fault| {
+        orders::lists(seed, limits, |lent| faulty(lent, fault)).err()
     });
 }
 
