@@ -16,7 +16,7 @@ free-grows s e1 x y h =
     let epochs = ceil-grows (x - 1) (y - 1) (epochLength s) e1 (omega arith) in
     mul-le-mul-left (s .n) (ceil-grows (ceilDiv (x - 1) (epochLength s) + 1) (ceilDiv (y - 1) (epochLength s) + 1) 2 (omega arith) (omega arith))
 
--- a burst of N activations fits in an epoch; c bursts take at most half of the span and one and a half epochs
+-- a burst of N activations fits in an epoch; c bursts take at most half of the span plus one and a half epochs
 bursts-fit : (n trc e c q y : ℕ) → n * trc ≤ e → 2 * c ≤ q + 2 → q * e ≤ y + e → 2 * (n * c * trc) ≤ y + 3 * e
 bursts-fit n trc e c q y h k l =
     let each : c * (n * trc) ≤ c * e = mul-le-mul-left c h in

@@ -305,7 +305,7 @@ fn spans(numbers: &mut Numbers, setting: &Setting) -> Vec<u64> {
 /// Each wrong bound and each wrong refusal shows.
 #[test]
 fn wrong_bounds() {
-    assert!(Fault::SPAN.len() >= 31 && Fault::SPAN_REFUSALS.len() >= 28);
+    assert!(Fault::SPAN.len() >= 32 && Fault::SPAN_REFUSALS.len() >= 28);
     let numbers = &mut Numbers::new(5);
     let mut settings = at_limits();
     settings.extend((0..1_500).map(|_| any(numbers)));

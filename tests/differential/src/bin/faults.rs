@@ -24,7 +24,7 @@ use std::process::ExitCode;
 const FIRST: u64 = 300;
 const RUNS: u64 = 5_000;
 /// Faults that are to be planted at least, those of both widths twice.
-const FAULTS: usize = 640;
+const FAULTS: usize = 641;
 /// Bits of the 64 seeds, up to 1,023.
 const BITS: usize = 64 * hashes::BITS as usize;
 /// Wrong histories in refusal 7, which the change-over has to show too.
