@@ -49,7 +49,7 @@ seeds-play-no-part s seeds x ok h = refusal-from s x h ∙ sym (delays .seedsPla
 
 -- ---- the answer
 
-pub accepted-answer : (s : Setting) (seeds : List ℕ) (x : ℕ) → 1 ≤ x → settingRefusal limits02 s seeds ≡ none → spanOf s x ≡ Most (spanBound s x)
+accepted-answer : (s : Setting) (seeds : List ℕ) (x : ℕ) → 1 ≤ x → settingRefusal limits02 s seeds ≡ none → spanOf s x ≡ Most (spanBound s x)
 unfolding spanOf
 accepted-answer s seeds x h e =
     let ok = accepted limits02 s seeds e .seeds-ok in

@@ -26,7 +26,7 @@ bursts-fit n trc e c q y h k l =
     let sum : (q + 2) * e ≡ q * e + 2 * e = add-mul q 2 e in
     omega arith
 
-pub free-small : (s : Setting) (x : ℕ) → Room s → 2 * (freeMost s x * s .trc) ≤ x - 1 + 3 * epochLength s
+free-small : (s : Setting) (x : ℕ) → Room s → 2 * (freeMost s x * s .trc) ≤ x - 1 + 3 * epochLength s
 free-small s x ok =
     let e = epochLength s in
     let q = ceilDiv (x - 1) e in

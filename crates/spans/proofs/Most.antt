@@ -13,7 +13,7 @@ abbrev pub most : ℕ → ℕ → ℕ → ℕ → ℕ
 most f trc td y = cond (leb (f * trc) y) (f + 1 + (y - f * trc) / td) (1 + y / trc)
 
 -- by cases: all f fit in the span, or not
-pub by-room : (P : ℕ → Type 0) (f trc td y : ℕ) → (f * trc ≤ y → P (f + 1 + (y - f * trc) / td)) → (y < f * trc → P (1 + y / trc)) → P (most f trc td y)
+by-room : (P : ℕ → Type 0) (f trc td y : ℕ) → (f * trc ≤ y → P (f + 1 + (y - f * trc) / td)) → (y < f * trc → P (1 + y / trc)) → P (most f trc td y)
 by-room P f trc td y a b = go (decLe (f * trc) y)
   where
     room : Bool
