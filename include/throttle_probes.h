@@ -8,8 +8,7 @@
 #ifndef THROTTLE_PROBES_H
 #define THROTTLE_PROBES_H
 
-#include "throttle_checked.h"
-#include "throttle_version.h"
+#include "throttle.h"
 
 #include <stddef.h>
 #include <stdint.h>
@@ -19,8 +18,9 @@ extern "C" {
 #endif
 
 enum {
-    THROTTLE_PROBES_OUT = 2,           /* words of out */
-    THROTTLE_PROBES_MOST_JITTER = 1000 /* ticks */
+    THROTTLE_PROBES_OUT = 2,            /* words of out */
+    THROTTLE_PROBES_MOST_JITTER = 1000, /* ticks */
+    THROTTLE_BAD_PROBES = 18            /* the refusal 18 below; 6 is THROTTLE_SHORT_BUFFER */
 };
 
 /* A row as the lists have it: bank * 65,536 + row. */
