@@ -5,6 +5,7 @@ use Prim.Native.Nat.{ℕ, _^_, _≤_, _<_, min}
 use native.Mathlib.Omega.{arith}
 use native.Mathlib.Decide.{ℕ-discrete}
 use lib.Dec.{T, eqb, eqb→eq, not-T, T-not}
+use borrow.Author.Tests.{eq-eqb, ne-eqb}
 use Rattle.rules.specs.Cells.{every}
 use Rattle.rules.proofs.Tests.{and-i, and-l, and-r, cond-yes, cond-no, holds, fails, every-at, every-all, every-same, and-true}
 use Rattle.probe_fit.specs.Probes.{Probe, onTime, sameRow}
@@ -17,19 +18,19 @@ use Rattle.probe_pairs.proofs.Pass.{greatest-fits, least-fits}
 
 -- ---- a result and the test that it depends on
 
-isLate : Records → Bool
+abbrev isLate : Records → Bool
 isLate Late = true
 isLate (Spread a g l) = false
 
-alikeOf : Records → Bool
+abbrev alikeOf : Records → Bool
 alikeOf Late = false
 alikeOf (Spread a g l) = a
 
-greatestOf : Records → ℕ
+abbrev greatestOf : Records → ℕ
 greatestOf Late = 0
 greatestOf (Spread a g l) = g
 
-leastOf : Records → ℕ
+abbrev leastOf : Records → ℕ
 leastOf Late = 0
 leastOf (Spread a g l) = l
 
@@ -97,10 +98,10 @@ module _ (x y : Probe) where
   pub late-second : every (y .count) (onTime (y .ticks)) ≡ false → Late ≡ recordsOf x y
   late-second e = late-all (fails allOnTime (ap (λ q. every (x .count) (onTime (x .ticks)) && q) e ∙ and-none (every (x .count) (onTime (x .ticks)))))
 
-  pub pairs-told : (a : Bool) (h k : ℕ) → Spread a h k ≡ pairsOf (x .ticks) (x .rows) (y .ticks) (y .rows) paired
+  pub pairs-told : {a : Bool} {h k : ℕ} → Spread a h k ≡ pairsOf (x .ticks) (x .rows) (y .ticks) (y .rows) paired
       → Told pairsOnTime a sameWords h g k l
   unfolding pairsOf
-  pairs-told a h k e = spread-told pairsOnTime a sameWords h g k l e
+  pairs-told {a} {h} {k} e = spread-told pairsOnTime a sameWords h g k l e
 
   -- the same words in the pairs and equal lengths
   alike-by-words : (sameWords && eqb (x .count) (y .count)) ≡ alike x y
@@ -116,14 +117,19 @@ module _ (x y : Probe) where
           ∙ every-same paired (sameRow x y) (sameWord (x .rows) (y .rows)) (λ i h. sym (same-word x y i))
           ∙ ap (λ n. every n (sameRow x y)) m
 
-  pub spread-all : (a q : Bool) (h k : ℕ) → Told pairsOnTime a sameWords h g k l
-      → every (x .count) (onTime (x .ticks)) ≡ true → every (y .count) (onTime (y .ticks)) ≡ true
-      → q ≡ (a && eqb (x .count) (y .count)) → Spread q h k ≡ recordsOf x y
-  unfolding recordsOf
-  spread-all a q h k t e f s =
-      ap₂ (λ b m. Spread b m k) (s ∙ ap (λ b. b && eqb (x .count) (y .count)) (t .alike-is) ∙ alike-by-words) (t .greatest-is)
-      ∙ ap (λ m. Spread (alike x y) g m) (t .least-is)
-      ∙ sym (cond-yes allOnTime (Spread (alike x y) g l) Late (holds allOnTime (ap₂ _&&_ e f)))
+  module _ (e : every (x .count) (onTime (x .ticks)) ≡ true) (f : every (y .count) (onTime (y .ticks)) ≡ true) where
+    spread-all : {a q : Bool} {h k : ℕ} → Told pairsOnTime a sameWords h g k l → q ≡ (a && eqb (x .count) (y .count)) → Spread q h k ≡ recordsOf x y
+    unfolding recordsOf
+    spread-all {a} {q} {h} {k} t s =
+        ap₂ (λ b m. Spread b m k) (s ∙ ap (λ b. b && eqb (x .count) (y .count)) (t .alike-is) ∙ alike-by-words) (t .greatest-is)
+        ∙ ap (λ m. Spread (alike x y) g m) (t .least-is)
+        ∙ sym (cond-yes allOnTime (Spread (alike x y) g l) Late (holds allOnTime (ap₂ _&&_ e f)))
+
+    pub spread-equal : {a : Bool} {h k : ℕ} → x .count ≡ y .count → Told pairsOnTime a sameWords h g k l → Spread a h k ≡ recordsOf x y
+    spread-equal {a} c t = spread-all t (sym (ap (λ q. a && q) (eq-eqb (x .count) (y .count) c) ∙ and-true a))
+
+    pub spread-other : {a : Bool} {h k : ℕ} → (x .count ≡ y .count → ⊥) → Told pairsOnTime a sameWords h g k l → Spread false h k ≡ recordsOf x y
+    spread-other {a} c t = spread-all t (sym (ap (λ q. a && q) (ne-eqb (x .count) (y .count) c) ∙ and-none a))
 
   -- ---- what a caller takes from the result
 
@@ -131,12 +137,12 @@ module _ (x y : Probe) where
   unfolding recordsOf
   records-late e = late-told allOnTime (alike x y) g l e
 
-  pub records-told : (a : Bool) (h k : ℕ) → Spread a h k ≡ recordsOf x y → Told allOnTime a (alike x y) h g k l
+  pub records-told : {a : Bool} {h k : ℕ} → Spread a h k ≡ recordsOf x y → Told allOnTime a (alike x y) h g k l
   unfolding recordsOf
-  records-told a h k e = spread-told allOnTime a (alike x y) h g k l e
+  records-told {a} {h} {k} e = spread-told allOnTime a (alike x y) h g k l e
 
-  pub told-fits : (a : Bool) (h k : ℕ) → Told allOnTime a (alike x y) h g k l → (h ≤ 2 ^ 63) × (k ≤ 2 ^ 63)
-  told-fits a h k t =
+  pub told-fits : {a : Bool} {h k : ℕ} → Told allOnTime a (alike x y) h g k l → (h ≤ 2 ^ 63) × (k ≤ 2 ^ 63)
+  told-fits t =
       let second = and-r (every (x .count) (onTime (x .ticks))) (every (y .count) (onTime (y .ticks))) (t .on-time) in
       let m = greatest-fits (x .ticks) (y .ticks) paired (every-fewer paired (y .count) (onTime (y .ticks)) (omega arith) second) in
       let n = least-fits (x .ticks) (y .ticks) paired in

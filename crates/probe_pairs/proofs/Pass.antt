@@ -8,19 +8,26 @@ use native.Mathlib.Numerals.{add-one}
 use lib.Dec.{T, ltb, eqb, lt→ltb, ltb→lt, T-not, not-T}
 use lib.ListN.{getD}
 use Rattle.rules.specs.Cells.{every}
-use Rattle.rules.proofs.Tests.{and-i, and-l, and-r, cond-yes, cond-no, every-at}
+use Rattle.rules.proofs.Tests.{and-i, and-l, and-r, cond-yes, cond-no, holds, fails, is-false, every-at}
 use Rattle.probe_fit.specs.Probes.{onTime}
 use Rattle.probe_fit.specs.Closed.{gap, greatest, least}
 use Rattle.probe_pairs.specs.declared.Records.the-variants.{Late, Spread}
 use Rattle.probe_pairs.specs.Pairs.{sameWord, pairsOf}
+
+pub both-on-time : (x y : ℕ) → (ltb x (2 ^ 62) && ltb y (2 ^ 62)) ≡ true → (x < 2 ^ 62) × (y < 2 ^ 62)
+both-on-time x y e =
+    let t = holds (ltb x (2 ^ 62) && ltb y (2 ^ 62)) e in
+    (ltb→lt x (2 ^ 62) (and-l (ltb x (2 ^ 62)) (ltb y (2 ^ 62)) t), ltb→lt y (2 ^ 62) (and-r (ltb x (2 ^ 62)) (ltb y (2 ^ 62)) t))
 
 -- one tick more that is on time
 pub on-time-more : (ts : List ℕ) (i : ℕ) → T (every i (onTime ts)) → getD ts i 0 < 2 ^ 62 → T (every (i + 1) (onTime ts))
 on-time-more ts i t h = rw (add-one i) (and-i (every i (onTime ts)) (onTime ts i) t (lt→ltb (getD ts i 0) (2 ^ 62) h))
 
 -- a late tick among the first n
-pub late-at : (ts : List ℕ) (i n : ℕ) → i < n → T (not (onTime ts i)) → T (not (every n (onTime ts)))
-late-at ts i n h t = not-T (every n (onTime ts)) (λ e. T-not (onTime ts i) t (every-at n (onTime ts) e i h))
+pub late-at : (ts : List ℕ) (i n : ℕ) → i < n → 2 ^ 62 ≤ getD ts i 0 → every n (onTime ts) ≡ false
+late-at ts i n h k =
+    is-false (every n (onTime ts))
+    (not-T (every n (onTime ts)) (λ e. let m = ltb→lt (getD ts i 0) (2 ^ 62) (every-at n (onTime ts) e i h) in absurd (omega arith)))
 
 module _ (ts rs us ss : List ℕ) where
   pub record Passed (i : ℕ) (same : Bool) (g l : ℕ) : Type 0 where
@@ -34,22 +41,30 @@ module _ (ts rs us ss : List ℕ) where
   unfolding greatest least
   passed-none = record { first = tt; second = tt; same-is = refl; greatest-is = refl; least-is = refl }
 
-  pub passed-more : (i : ℕ) (same : Bool) (g l : ℕ) → getD ts i 0 < 2 ^ 62 → getD us i 0 < 2 ^ 62 → Passed i same g l
-      → Passed (i + 1) (same && eqb (getD rs i 0) (getD ss i 0)) (max g (gap ts us i)) (min l (gap ts us i))
+  -- one pair more
+  pub passed-more : (i : ℕ) (same same' : Bool) (g g' l l' : ℕ) → (onTime ts i && onTime us i) ≡ true
+      → same' ≡ (same && sameWord rs ss i) → g' ≡ max g (gap ts us i) → l' ≡ min l (gap ts us i) → Passed i same g l → Passed (i + 1) same' g' l'
   unfolding greatest least
-  passed-more i same g l a b p =
+  passed-more i same same' g g' l l' t s m n p =
+      let b = both-on-time (getD ts i 0) (getD us i 0) t in
       record {
-        first = on-time-more ts i (p .first) a;
-        second = on-time-more us i (p .second) b;
-        same-is = ap (λ s. s && sameWord rs ss i) (p .same-is) ∙ ap (λ n. every n (sameWord rs ss)) (sym (add-one i));
-        greatest-is = ap (λ m. max m (gap ts us i)) (p .greatest-is) ∙ ap (greatest ts us) (sym (add-one i));
-        least-is = ap (λ m. min m (gap ts us i)) (p .least-is) ∙ ap (least ts us) (sym (add-one i));
+        first = on-time-more ts i (p .first) (b .0);
+        second = on-time-more us i (p .second) (b .1);
+        same-is = s ∙ ap (λ q. q && sameWord rs ss i) (p .same-is) ∙ ap (λ k. every k (sameWord rs ss)) (sym (add-one i));
+        greatest-is = m ∙ ap (λ k. max k (gap ts us i)) (p .greatest-is) ∙ ap (greatest ts us) (sym (add-one i));
+        least-is = n ∙ ap (λ k. min k (gap ts us i)) (p .least-is) ∙ ap (least ts us) (sym (add-one i));
       }
 
-  pub passed-late : (n : ℕ) → T (not (every n (onTime ts) && every n (onTime us))) → Late ≡ pairsOf ts rs us ss n
+  -- a pair with a late tick
+  pub passed-late : (i n : ℕ) → i < n → (onTime ts i && onTime us i) ≡ false → Late ≡ pairsOf ts rs us ss n
   unfolding pairsOf
-  passed-late n h =
-      sym (cond-no (every n (onTime ts) && every n (onTime us)) (Spread (every n (sameWord rs ss)) (greatest ts us n) (least ts us n)) Late h)
+  passed-late i n h e =
+      sym
+      (cond-no (every n (onTime ts) && every n (onTime us)) (Spread (every n (sameWord rs ss)) (greatest ts us n) (least ts us n)) Late
+      (not-T (every n (onTime ts) && every n (onTime us)) (λ t.
+        T-not (onTime ts i && onTime us i) (fails (onTime ts i && onTime us i) e)
+        (and-i (onTime ts i) (onTime us i) (every-at n (onTime ts) (and-l (every n (onTime ts)) (every n (onTime us)) t) i h)
+        (every-at n (onTime us) (and-r (every n (onTime ts)) (every n (onTime us)) t) i h)))))
 
   pub passed-all : (n i : ℕ) (same : Bool) (g l : ℕ) → i ≡ n → Passed i same g l → Spread same g l ≡ pairsOf ts rs us ss n
   unfolding pairsOf

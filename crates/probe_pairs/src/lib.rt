@@ -36,32 +36,32 @@ fn on_time(x: u64, y: u64) -> bool
     x < 4611686018427387904 && y < 4611686018427387904
 }
 
-// What was the same so far still is: these two are equal.
-fn still_same(same: bool, a: u64, b: u64) -> bool
+// The rows were the same so far, and these two are.
+fn still_same(same: bool, a: u32, b: u32) -> bool
     ensures { λ r. ⌜ r ≡ (same && eqb a b) ⌝ }
 {
     same && a == b
 }
 
 // The first n pairs. The pass ends at a late tick.
-fn pairs(first_ticks: &[u64], first_rows: &[u32], second_ticks: &[u64], second_rows: &[u32], n: usize) -> Records
-    requires { ⌜ (n ≤ length (now first_ticks)) × (n ≤ length (now first_rows)) × (n ≤ length (now second_ticks)) × (n ≤ length (now second_rows)) ⌝ }
-    ensures { λ r. ⌜ r ≡ pairsOf (now (first_ticks .entry)) (now (first_rows .entry)) (now (second_ticks .entry)) (now (second_rows .entry)) n ⌝ }
+fn pairs(xticks: &[u64], xrows: &[u32], yticks: &[u64], yrows: &[u32], n: usize) -> Records
+    requires { ⌜ (n ≤ length (now xticks)) × (n ≤ length (now xrows)) × (n ≤ length (now yticks)) × (n ≤ length (now yrows)) ⌝ }
+    ensures { λ r. ⌜ r ≡ pairsOf (now (xticks .entry)) (now (xrows .entry)) (now (yticks .entry)) (now (yrows .entry)) n ⌝ }
 {
     let mut same = true;
     let mut greatest: u64 = 0;
     let mut least: u64 = 9223372036854775808;
     let mut i: usize = 0;
     while i < n {
-        let x = first_ticks[i];
-        let y = second_ticks[i];
+        let x = xticks[i];
+        let y = yticks[i];
         if !on_time(x, y) {
             return Records::Late;
         }
         let gap = y + 4611686018427387904 - x;
         greatest = larger(greatest, gap);
         least = smaller(least, gap);
-        same = still_same(same, first_rows[i] as u64, second_rows[i] as u64);
+        same = still_same(same, xrows[i], yrows[i]);
         i += 1;
     }
     Records::Spread {
@@ -87,12 +87,12 @@ fn rest_on_time(ticks: &[u64], from: usize, count: usize) -> bool
 }
 
 // All records of both lists: the pairs, and the ticks of the longer list that have no partner.
-pub fn records(first_ticks: &[u64], first_rows: &[u32], first_count: u64, second_ticks: &[u64], second_rows: &[u32], second_count: u64) -> Records
-    requires { ⌜ (first_count ≤ length (now first_ticks)) × (first_count ≤ length (now first_rows)) × (second_count ≤ length (now second_ticks)) × (second_count ≤ length (now second_rows)) ⌝ }
-    ensures { λ r. ⌜ r ≡ recordsOf (lent (now (first_ticks .entry)) (now (first_rows .entry)) first_count) (lent (now (second_ticks .entry)) (now (second_rows .entry)) second_count) ⌝ }
+pub fn look(xticks: &[u64], xrows: &[u32], xcount: u64, yticks: &[u64], yrows: &[u32], ycount: u64) -> Records
+    requires { ⌜ (xcount ≤ length (now xticks)) × (xcount ≤ length (now xrows)) × (ycount ≤ length (now yticks)) × (ycount ≤ length (now yrows)) ⌝ }
+    ensures { λ r. ⌜ r ≡ recordsOf (lent (now (xticks .entry)) (now (xrows .entry)) xcount) (lent (now (yticks .entry)) (now (yrows .entry)) ycount) ⌝ }
 {
-    let n = smaller(first_count, second_count) as usize;
-    let paired = pairs(first_ticks, first_rows, second_ticks, second_rows, n);
+    let n = smaller(xcount, ycount) as usize;
+    let paired = pairs(xticks, xrows, yticks, yrows, n);
     match paired {
         Records::Late => Records::Late,
         Records::Spread {
@@ -100,14 +100,21 @@ pub fn records(first_ticks: &[u64], first_rows: &[u32], first_count: u64, second
             greatest,
             least,
         } => {
-            if !rest_on_time(first_ticks, n, first_count as usize) {
+            if !rest_on_time(xticks, n, xcount as usize) {
                 return Records::Late;
             }
-            if !rest_on_time(second_ticks, n, second_count as usize) {
+            if !rest_on_time(yticks, n, ycount as usize) {
                 return Records::Late;
+            }
+            if xcount != ycount {
+                return Records::Spread {
+                    alike: false,
+                    greatest,
+                    least,
+                };
             }
             Records::Spread {
-                alike: still_same(alike, first_count, second_count),
+                alike,
                 greatest,
                 least,
             }

@@ -45,19 +45,19 @@ fn decide(jitter: u64, alike: bool, greatest: u64, least: u64) -> Verdict
 }
 
 // The verdict about two lists.
-fn verdict(first_ticks: &[u64], first_rows: &[u32], first_count: u64, second_ticks: &[u64], second_rows: &[u32], second_count: u64, jitter: u64) -> Verdict
-    ensures { λ r. ⌜ r ≡ verdictOf (lent (now (first_ticks .entry)) (now (first_rows .entry)) first_count) (lent (now (second_ticks .entry)) (now (second_rows .entry)) second_count) jitter ⌝ }
+fn verdict(xticks: &[u64], xrows: &[u32], xcount: u64, yticks: &[u64], yrows: &[u32], ycount: u64, jitter: u64) -> Verdict
+    ensures { λ r. ⌜ r ≡ verdictOf (lent (now (xticks .entry)) (now (xrows .entry)) xcount) (lent (now (yticks .entry)) (now (yrows .entry)) ycount) jitter ⌝ }
 {
-    if too_short(first_ticks, first_rows, first_count) {
+    if too_short(xticks, xrows, xcount) {
         return Verdict::Refused { refusal: 6 };
     }
-    if too_short(second_ticks, second_rows, second_count) {
+    if too_short(yticks, yrows, ycount) {
         return Verdict::Refused { refusal: 6 };
     }
     if jitter > 1000 {
         return Verdict::Refused { refusal: 18 };
     }
-    let records = probe_pairs::records(first_ticks, first_rows, first_count, second_ticks, second_rows, second_count);
+    let records = probe_pairs::look(xticks, xrows, xcount, yticks, yrows, ycount);
     match records {
         Records::Late => Verdict::Refused { refusal: 18 },
         Records::Spread {
@@ -85,10 +85,10 @@ fn two_complement(number: u64) -> u64
 // It rules out: another offset than the least, a jitter that is taken one too strictly, lists of different length, bank or row that fit, a late
 // tick without a partner that is not refused, another offset than −1,000 for two empty lists, a refusal that writes, a look behind the records.
 #[no_mangle]
-pub extern "C" fn throttle_fit_probes(first_ticks: &[u64], first_rows: &[u32], first_count: u64, second_ticks: &[u64], second_rows: &[u32], second_count: u64, jitter: u64, out: &mut [u64; 2]) -> u32
-    ensures { λ r. ⌜ let v = verdictOf (lent (now (first_ticks .entry)) (now (first_rows .entry)) first_count) (lent (now (second_ticks .entry)) (now (second_rows .entry)) second_count) jitter in (r ≡ codeOf v) × (now (out .exit) ≡ outOf v (now (out .entry))) ⌝ }
+pub extern "C" fn throttle_fit_probes(xticks: &[u64], xrows: &[u32], xcount: u64, yticks: &[u64], yrows: &[u32], ycount: u64, jitter: u64, out: &mut [u64; 2]) -> u32
+    ensures { λ r. ⌜ let v = verdictOf (lent (now (xticks .entry)) (now (xrows .entry)) xcount) (lent (now (yticks .entry)) (now (yrows .entry)) ycount) jitter in (r ≡ codeOf v) × (now (out .exit) ≡ outOf v (now (out .entry))) ⌝ }
 {
-    let answer = verdict(first_ticks, first_rows, first_count, second_ticks, second_rows, second_count, jitter);
+    let answer = verdict(xticks, xrows, xcount, yticks, yrows, ycount, jitter);
     match answer {
         Verdict::Fit { number } => {
             *out = [1, two_complement(number)];
