@@ -172,7 +172,7 @@ no-fit-exactly x y j before e = (there, back)
     back : Apart j x y → (codeOf (verdictOf x y j) ≡ 0) × (outOf (verdictOf x y j) before ≡ 0 ∷ 0 ∷ [])
     back a =
         let v : verdictOf x y j ≡ NoFit =
-            verdict-decided x y j e ∙ decided-none r (none-fits x y j r (least-found x y j) (none-where-apart x y j a)) in
+        verdict-decided x y j e ∙ decided-none r (none-fits x y j r (least-found x y j) (none-where-apart x y j a)) in
         (ap codeOf v, ap (λ u. outOf u before) v)
 
 -- ---- two empty lists
@@ -190,7 +190,7 @@ empty-fit x y j before cx cy h =
     let accepted : probesRefusal x y j ≡ 0 = rw (not-short x cx, not-short y cy, le-ltb 1000 j h, not-late x cx, not-late y cy) refl in
     let fit : T (fits j (offset 0) x y) = rw (cx, cy) tt in
     let zero-found : Found (λ e. fits j (offset e) x y) 0 2001 0 =
-        record { from = omega arith; most = omega arith; passes = λ k. fit; first = λ i a b. absurd (omega arith) } in
+    record { from = omega arith; most = omega arith; passes = λ k. fit; first = λ i a b. absurd (omega arith) } in
     let r : leastOffset j x y ≡ 0 = found-one (λ e. fits j (offset e) x y) (least-found x y j) zero-found in
     let v : verdictOf x y j ≡ Fit 0 = verdict-decided x y j accepted ∙ ap decided r in
     (ap codeOf v, ap (λ u. outOf u before) v)

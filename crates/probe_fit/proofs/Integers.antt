@@ -147,3 +147,10 @@ read-back e h = toZ-ofZ {w = w64} {z = offset e} (go (decLt e 1000))
     go : Dec (e < 1000) → SFits w64 (offset e)
     go (yes a) = rw (sub-below e 1000 a) (record { sfits = omega arith })
     go (no a) = let k : 1000 ≤ e = omega arith in rw (sub-from e 1000 k) (record { sfits = omega arith })
+
+-- the word of an offset, by its number
+pub word-below : (e : ℕ) → e < 1000 → 18446744073709550616 + e ≡ ofZ w64 (offset e)
+word-below e h = let k : 18446744073709550616 + e ≡ ofZ w64 (negsuc (1000 - suc e)) = omega arith in k ∙ ap (ofZ w64) (sym (sub-below e 1000 h))
+
+pub word-from : (e : ℕ) → 1000 ≤ e → e - 1000 ≡ ofZ w64 (offset e)
+word-from e h = ap (ofZ w64) (sym (sub-from e 1000 h))

@@ -19,15 +19,15 @@ unfolding sameRow
 same-word x y i =
     same-test (eqb (bankAt x i) (bankAt y i) && eqb (rowAt x i) (rowAt y i)) (eqb (wordAt x i) (wordAt y i))
     (λ t.
-      let b = eqb→eq (bankAt x i) (bankAt y i) (and-l (eqb (bankAt x i) (bankAt y i)) (eqb (rowAt x i) (rowAt y i)) t) in
-      let r = eqb→eq (rowAt x i) (rowAt y i) (and-r (eqb (bankAt x i) (bankAt y i)) (eqb (rowAt x i) (rowAt y i)) t) in
-      let e : wordAt x i ≡ wordAt y i = omega (arith, b, r) in
-      subst (λ w. T (eqb (wordAt x i) w)) e (eqb-refl (wordAt x i)))
+    let b = eqb→eq (bankAt x i) (bankAt y i) (and-l (eqb (bankAt x i) (bankAt y i)) (eqb (rowAt x i) (rowAt y i)) t) in
+    let r = eqb→eq (rowAt x i) (rowAt y i) (and-r (eqb (bankAt x i) (bankAt y i)) (eqb (rowAt x i) (rowAt y i)) t) in
+    let e : wordAt x i ≡ wordAt y i = omega (arith, b, r) in
+    subst (λ w. T (eqb (wordAt x i) w)) e (eqb-refl (wordAt x i)))
     (λ t.
-      let e = eqb→eq (wordAt x i) (wordAt y i) t in
-      and-i (eqb (bankAt x i) (bankAt y i)) (eqb (rowAt x i) (rowAt y i))
-      (subst (λ w. T (eqb (bankAt x i) (w / 65536))) e (eqb-refl (bankAt x i)))
-      (subst (λ w. T (eqb (rowAt x i) (w % 65536))) e (eqb-refl (rowAt x i))))
+    let e = eqb→eq (wordAt x i) (wordAt y i) t in
+    and-i (eqb (bankAt x i) (bankAt y i)) (eqb (rowAt x i) (rowAt y i))
+    (subst (λ w. T (eqb (bankAt x i) (w / 65536))) e (eqb-refl (bankAt x i)))
+    (subst (λ w. T (eqb (rowAt x i) (w % 65536))) e (eqb-refl (rowAt x i))))
 
 -- ---- records
 
@@ -45,10 +45,10 @@ module _ (x y z w : Probe) (a : SameRecords x z) (b : SameRecords y w) where
           let c = eqb→eq (x .count) (y .count) (holds (eqb (x .count) (y .count)) e) in
           every-same (x .count) (λ i. sameRow z w i && near j d z w i) (λ i. sameRow x y i && near j d x y i)
           (λ i h.
-            let k : i < y .count = omega (arith, h, c) in
-            ap₂ (λ s n. s && n)
-            (ap₂ (λ u v. eqb (u / 65536) (v / 65536) && eqb (u % 65536) (v % 65536)) (a .words i h) (b .words i k))
-            (ap₂ (λ u v. leb (natAbs (subℕ v u -ℤ d)) j) (a .ticks i h) (b .ticks i k)))
+          let k : i < y .count = omega (arith, h, c) in
+          ap₂ (λ s n. s && n)
+          (ap₂ (λ u v. eqb (u / 65536) (v / 65536) && eqb (u % 65536) (v % 65536)) (a .words i h) (b .words i k))
+          (ap₂ (λ u v. leb (natAbs (subℕ v u -ℤ d)) j) (a .ticks i h) (b .ticks i k)))
 
   same-offset : (j : ℕ) → leastOffset j x y ≡ leastOffset j z w
   unfolding leastOffset

@@ -152,9 +152,9 @@ module _ (x y : Probe) (j : ℕ) (ok : Accepted x y j) where
               most = omega arith;
               passes = λ h. absurd (omega arith);
               first = λ i v h. not-T (passes i) (λ f.
-                let r = room i (omega arith) f in
-                T-not (leb e 2000 && leb (e + 2 ^ 62) (l + j + 1000)) (fails (leb e 2000 && leb (e + 2 ^ 62) (l + j + 1000)) k)
-                (and-i (leb e 2000) (leb (e + 2 ^ 62) (l + j + 1000)) (le→leb e 2000 (omega arith)) (le→leb (e + 2 ^ 62) (l + j + 1000) (omega arith))));
+                  let r = room i (omega arith) f in
+                  T-not (leb e 2000 && leb (e + 2 ^ 62) (l + j + 1000)) (fails (leb e 2000 && leb (e + 2 ^ 62) (l + j + 1000)) k)
+                  (and-i (leb e 2000) (leb (e + 2 ^ 62) (l + j + 1000)) (le→leb e 2000 (omega arith)) (le→leb (e + 2 ^ 62) (l + j + 1000) (omega arith))));
             }
 
   form-found : Found passes 0 2001 (cond (alike x y) (closed j g l) 2001)

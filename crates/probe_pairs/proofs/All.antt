@@ -87,10 +87,10 @@ module _ (x y : Probe) where
   late-pairs e =
       late-all
       (not-T allOnTime (λ t.
-        T-not pairsOnTime (late-told pairsOnTime sameWords g l e)
-        (and-i (every paired (onTime (x .ticks))) (every paired (onTime (y .ticks)))
-        (every-fewer paired (x .count) (onTime (x .ticks)) (omega arith) (and-l (every (x .count) (onTime (x .ticks))) (every (y .count) (onTime (y .ticks))) t))
-        (every-fewer paired (y .count) (onTime (y .ticks)) (omega arith) (and-r (every (x .count) (onTime (x .ticks))) (every (y .count) (onTime (y .ticks))) t)))))
+      T-not pairsOnTime (late-told pairsOnTime sameWords g l e)
+      (and-i (every paired (onTime (x .ticks))) (every paired (onTime (y .ticks)))
+      (every-fewer paired (x .count) (onTime (x .ticks)) (omega arith) (and-l (every (x .count) (onTime (x .ticks))) (every (y .count) (onTime (y .ticks))) t))
+      (every-fewer paired (y .count) (onTime (y .ticks)) (omega arith) (and-r (every (x .count) (onTime (x .ticks))) (every (y .count) (onTime (y .ticks))) t)))))
 
   pub late-first : every (x .count) (onTime (x .ticks)) ≡ false → Late ≡ recordsOf x y
   late-first e = late-all (subst (λ q. T (not (q && every (y .count) (onTime (y .ticks))))) (sym e) tt)

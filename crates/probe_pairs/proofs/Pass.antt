@@ -62,9 +62,9 @@ module _ (ts rs us ss : List ℕ) where
       sym
       (cond-no (every n (onTime ts) && every n (onTime us)) (Spread (every n (sameWord rs ss)) (greatest ts us n) (least ts us n)) Late
       (not-T (every n (onTime ts) && every n (onTime us)) (λ t.
-        T-not (onTime ts i && onTime us i) (fails (onTime ts i && onTime us i) e)
-        (and-i (onTime ts i) (onTime us i) (every-at n (onTime ts) (and-l (every n (onTime ts)) (every n (onTime us)) t) i h)
-        (every-at n (onTime us) (and-r (every n (onTime ts)) (every n (onTime us)) t) i h)))))
+      T-not (onTime ts i && onTime us i) (fails (onTime ts i && onTime us i) e)
+      (and-i (onTime ts i) (onTime us i) (every-at n (onTime ts) (and-l (every n (onTime ts)) (every n (onTime us)) t) i h)
+      (every-at n (onTime us) (and-r (every n (onTime ts)) (every n (onTime us)) t) i h)))))
 
   pub passed-all : (n i : ℕ) (same : Bool) (g l : ℕ) → i ≡ n → Passed i same g l → Spread same g l ≡ pairsOf ts rs us ss n
   unfolding pairsOf

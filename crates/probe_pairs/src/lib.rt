@@ -14,7 +14,11 @@ pub enum Records {
     // A tick of 2^62 or more.
     Late,
     // Every tick is below 2^62: whether the lists are alike, and the greatest and the least difference plus 2^62.
-    Spread { alike: bool, greatest: u64, least: u64 },
+    Spread {
+        alike: bool,
+        greatest: u64,
+        least: u64,
+    },
 }
 
 fn larger(a: u64, b: u64) -> u64
@@ -87,7 +91,14 @@ fn rest_on_time(ticks: &[u64], from: usize, count: usize) -> bool
 }
 
 // All records of both lists: the pairs, and the ticks of the longer list that have no partner.
-pub fn look(xticks: &[u64], xrows: &[u32], xcount: u64, yticks: &[u64], yrows: &[u32], ycount: u64) -> Records
+pub fn look(
+    xticks: &[u64],
+    xrows: &[u32],
+    xcount: u64,
+    yticks: &[u64],
+    yrows: &[u32],
+    ycount: u64,
+) -> Records
     requires { ⌜ (xcount ≤ length (now xticks)) × (xcount ≤ length (now xrows)) × (ycount ≤ length (now yticks)) × (ycount ≤ length (now yrows)) ⌝ }
     ensures { λ r. ⌜ r ≡ recordsOf (lent (now (xticks .entry)) (now (xrows .entry)) xcount) (lent (now (yticks .entry)) (now (yrows .entry)) ycount) ⌝ }
 {

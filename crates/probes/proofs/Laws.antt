@@ -3,12 +3,14 @@ use mathlib.Core.Path.{_≡_, refl, sym, ap, ap₂, subst, _∙_}
 use mathlib.Core.Bool.{Bool, true, false, not, _&&_, _||_, cond}
 use Prim.Native.Nat.{ℕ, _+_, _-_, _^_, _≤_, _<_}
 use native.Mathlib.Omega.{arith}
-use lib.Dec.{T, ltb, T-not}
+use lib.Dec.{T, leb, ltb, eqb, leb→le, nltb→le, T-not}
+use lib.ListN.{length}
 use borrow.Author.Tests.{lt-ltb, le-ltb, le-leb, lt-leb}
 use Rattle.rules.specs.Cells.{every}
-use Rattle.rules.proofs.Tests.{and-i, and-l, and-r, holds, is-true}
-use Rattle.probe_fit.specs.declared.Verdict.the-variants.{Refused}
-use Rattle.probe_fit.specs.Probes.{Probe, onTime, tooShort, lateTick, probesRefusal, decided, verdictOf}
+use Rattle.rules.proofs.Tests.{and-l, and-r, not-or, holds, fails, is-true}
+use Rattle.probe_fit.specs.declared.Verdict.{Verdict}
+use Rattle.probe_fit.specs.declared.Verdict.the-variants.{Fit, NoFit, Refused}
+use Rattle.probe_fit.specs.Probes.{Probe, onTime, tooShort, lateTick, probesRefusal, leastOffset, decided, verdictOf}
 use Rattle.probe_fit.specs.Closed.{alike, greatest, least, closed}
 use Rattle.probe_fit.proofs.Answers.{verdict-decided, verdict-refused}
 use Rattle.probe_fit.proofs.Room.{alike-counts, closed-form}
@@ -29,7 +31,29 @@ module _ (j g l e : ℕ) (is : e ≡ g + 1000 - (2 ^ 62 + j)) where
   unfolding closed
   fit h k = rw (← is, le-leb e 2000 h, le-leb (e + 2 ^ 62) (l + j + 1000) k) refl
 
+-- ---- the number of an offset
+
+abbrev numberIn : Verdict → ℕ
+numberIn (Fit number) = number
+numberIn NoFit = 0
+numberIn (Refused number) = 0
+
+pub number-most : (x y : Probe) (j n : ℕ) → Fit n ≡ verdictOf x y j → n ≤ 2000
+unfolding verdictOf
+number-most x y j n e = subst (λ m. m ≤ 2000) (sym (ap numberIn e)) (go (eqb (probesRefusal x y j) 0) (leb (leastOffset j x y) 2000) refl)
+  where
+    go : (a b : Bool) → leb (leastOffset j x y) 2000 ≡ b
+        → numberIn (cond a (cond b (Fit (leastOffset j x y)) NoFit) (Refused (probesRefusal x y j))) ≤ 2000
+    go true true k = leb→le (leastOffset j x y) 2000 (holds (leb (leastOffset j x y) 2000) k)
+    go true false k = omega arith
+    go false b k = omega arith
+
 -- ---- the refusals
+
+pub long-enough : (p : Probe) → tooShort p ≡ false → (p .count ≤ length (p .ticks)) × (p .count ≤ length (p .rows))
+long-enough p e =
+    let t = not-or (ltb (length (p .ticks)) (p .count)) (ltb (length (p .rows)) (p .count)) (fails (tooShort p) e) in
+    (nltb→le (length (p .ticks)) (p .count) (t .0), nltb→le (length (p .rows)) (p .count) (t .1))
 
 module _ (x y : Probe) (j : ℕ) where
   refusal-by : {a b c d e : Bool} → tooShort x ≡ a → tooShort y ≡ b → ltb 1000 j ≡ c → lateTick x ≡ d → lateTick y ≡ e
@@ -67,10 +91,10 @@ module _ (x y : Probe) (j : ℕ) where
 
         -- ---- the verdict from the differences
 
-        pub verdict-told : (same : Bool) (g l : ℕ)
+        pub verdict-told : {same : Bool} {g l : ℕ}
             → Told (allOnTime x y) same (alike x y) g (greatest (x .ticks) (y .ticks) (paired x y)) l (least (x .ticks) (y .ticks) (paired x y))
             → decided (cond same (closed j g l) 2001) ≡ verdictOf x y j
-        verdict-told same g l t =
+        verdict-told {same} {g} {l} t =
             let ok = accepted (t .on-time) in
             ap decided (by-alike ∙ go (alike x y) refl ∙ sym (closed-form x y j ok)) ∙ sym (verdict-decided x y j ok)
           where

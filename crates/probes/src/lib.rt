@@ -45,7 +45,15 @@ fn decide(jitter: u64, alike: bool, greatest: u64, least: u64) -> Verdict
 }
 
 // The verdict about two lists.
-fn verdict(xticks: &[u64], xrows: &[u32], xcount: u64, yticks: &[u64], yrows: &[u32], ycount: u64, jitter: u64) -> Verdict
+fn verdict(
+    xticks: &[u64],
+    xrows: &[u32],
+    xcount: u64,
+    yticks: &[u64],
+    yrows: &[u32],
+    ycount: u64,
+    jitter: u64,
+) -> Verdict
     ensures { λ r. ⌜ r ≡ verdictOf (lent (now (xticks .entry)) (now (xrows .entry)) xcount) (lent (now (yticks .entry)) (now (yrows .entry)) ycount) jitter ⌝ }
 {
     if too_short(xticks, xrows, xcount) {
@@ -69,7 +77,7 @@ fn verdict(xticks: &[u64], xrows: &[u32], xcount: u64, yticks: &[u64], yrows: &[
 }
 
 // The offset with this number, which is 1,000 more, as a two's complement number.
-fn two_complement(number: u64) -> u64
+fn twos_complement(number: u64) -> u64
     requires { ⌜ number ≤ 2000 ⌝ }
     ensures { λ r. ⌜ r ≡ ofZ w64 (offset number) ⌝ }
 {
@@ -85,13 +93,22 @@ fn two_complement(number: u64) -> u64
 // It rules out: another offset than the least, a jitter that is taken one too strictly, lists of different length, bank or row that fit, a late
 // tick without a partner that is not refused, another offset than −1,000 for two empty lists, a refusal that writes, a look behind the records.
 #[no_mangle]
-pub extern "C" fn throttle_fit_probes(xticks: &[u64], xrows: &[u32], xcount: u64, yticks: &[u64], yrows: &[u32], ycount: u64, jitter: u64, out: &mut [u64; 2]) -> u32
-    ensures { λ r. ⌜ let v = verdictOf (lent (now (xticks .entry)) (now (xrows .entry)) xcount) (lent (now (yticks .entry)) (now (yrows .entry)) ycount) jitter in (r ≡ codeOf v) × (now (out .exit) ≡ outOf v (now (out .entry))) ⌝ }
+pub extern "C" fn throttle_fit_probes(
+    xticks: &[u64],
+    xrows: &[u32],
+    xcount: u64,
+    yticks: &[u64],
+    yrows: &[u32],
+    ycount: u64,
+    jitter: u64,
+    out: &mut [u64; 2],
+) -> u32
+    ensures { λ r. ⌜ (let v = verdictOf (lent (now (xticks .entry)) (now (xrows .entry)) xcount) (lent (now (yticks .entry)) (now (yrows .entry)) ycount) jitter in (r ≡ codeOf v) × (now (out .exit) ≡ outOf v (now (out .entry)))) ⌝ }
 {
     let answer = verdict(xticks, xrows, xcount, yticks, yrows, ycount, jitter);
     match answer {
         Verdict::Fit { number } => {
-            *out = [1, two_complement(number)];
+            *out = [1, twos_complement(number)];
             0
         }
         Verdict::NoFit => {

@@ -58,10 +58,12 @@ rest-on-time-requires : tie.Need-rest-on-time-requires
 rest-on-time-requires c κs =
     let k = c .before .before .before in
     let s = start k in
-    let n = k .before .smaller in
-    (omega (arith, n .ensures), s .pre .0,
-    subst (λ m. T (every m (onTime (x s .ticks)))) (sym (n .ensures))
-    (and-l (every (paired (x s) (y s)) (onTime (x s .ticks))) (every (paired (x s) (y s)) (onTime (y s .ticks))) (on-time (c .before))))
+    let n = k .before .smaller in (
+      omega (arith, n .ensures),
+      s .pre .0,
+      subst (λ m. T (every m (onTime (x s .ticks)))) (sym (n .ensures))
+          (and-l (every (paired (x s) (y s)) (onTime (x s .ticks))) (every (paired (x s) (y s)) (onTime (y s .ticks))) (on-time (c .before))),
+    )
 
 returns : tie.Need-returns
 returns c =
@@ -74,10 +76,12 @@ rest-on-time-requires-2 c κs =
     let p = first (c .before) in
     let k = p .before .before in
     let s = start k in
-    let n = k .before .smaller in
-    (omega (arith, n .ensures), s .pre .2,
-    subst (λ m. T (every m (onTime (y s .ticks)))) (sym (n .ensures))
-    (and-r (every (paired (x s) (y s)) (onTime (x s .ticks))) (every (paired (x s) (y s)) (onTime (y s .ticks))) (on-time p)))
+    let n = k .before .smaller in (
+      omega (arith, n .ensures),
+      s .pre .2,
+      subst (λ m. T (every m (onTime (y s .ticks)))) (sym (n .ensures))
+          (and-r (every (paired (x s) (y s)) (onTime (x s .ticks))) (every (paired (x s) (y s)) (onTime (y s .ticks))) (on-time p)),
+    )
 
 returns-2 : tie.Need-returns-2
 returns-2 c =
