@@ -1,13 +1,13 @@
 -- What the call leaves: 1 and the least offset that fits, 0 and 0 exactly where there is none, and −1,000 for two empty lists.
-use mathlib.Core.Path.{_≡_, refl, sym, ap, subst, _∙_}
-use mathlib.Core.Logic.{_⊎_, inl, inr}
-use mathlib.Core.List.{List, [], _∷_}
-use mathlib.Core.Bool.{Bool, true, false, not, _&&_, cond}
+use mathlib.Core.Path.{_≡_, refl, sym, ap, ap₂, subst, _∙_}
+use mathlib.Core.Logic.{inl, inr}
+use mathlib.Core.List.{[], _∷_}
+use mathlib.Core.Bool.{Bool, true, false, not, _&&_, _||_, cond}
 use Prim.Native.Nat.{ℕ, zero, suc, _≤_, _<_}
 use native.Mathlib.Omega.{arith}
 use native.Mathlib.Decide.{ℕ-discrete, decLt}
 use lib.Dec.{T, leb, eqb, leb→le, le→leb, nleb→lt, eqb→eq, eqb·suc-zero, not-T, T-not}
-use lib.IntN.{ℤ, negsuc, natAbs}
+use lib.IntN.{ℤ, natAbs}
 use lib.ListN.{length, getD}
 use lib.Signed.{leZ}
 use mir.Syntax.{w64}
@@ -18,7 +18,7 @@ use Rattle.rules.proofs.Tests.{and-i, and-l, and-r, holds, fails, is-true, cond
 use Rattle.probe_fit.specs.declared.Verdict.the-variants.{Fit, NoFit, Refused}
 use Rattle.probe_fit.specs.Probes.{Probe, tooShort, lateTick, onTime, probesRefusal, sameRow, near, fits, offset, leastOffset, decided, verdictOf, codeOf, outOf}
 use Rattle.probe_fit.specs.Closed.{alike}
-use Rattle.probe_fit.specs.Claims.{LeastFit, AnswersLeast, OtherRow, Apart, NoFitExactly, EmptyFit}
+use Rattle.probe_fit.specs.Claims.{LeastFit, AnswersLeast, Apart, NoFitExactly, EmptyFit}
 use Rattle.probe_fit.proofs.Integers.{numberOf, offset-of, number-most, offset-within, in-order, order-of, read-back}
 use Rattle.probe_fit.proofs.Found.{Found, found, found-one}
 use Rattle.probe_fit.proofs.Room.{fits-is}
@@ -178,7 +178,7 @@ no-fit-exactly x y j before e = (there, back)
 -- ---- two empty lists
 
 not-short : (p : Probe) → p .count ≡ 0 → tooShort p ≡ false
-not-short p c = rw (c, le-ltb (length (p .ticks)) 0 (omega arith), le-ltb (length (p .rows)) 0 (omega arith)) refl
+not-short p c = ap₂ _||_ (le-ltb (length (p .ticks)) (p .count) (omega (arith, c))) (le-ltb (length (p .rows)) (p .count) (omega (arith, c)))
 
 not-late : (p : Probe) → p .count ≡ 0 → lateTick p ≡ false
 unfolding lateTick

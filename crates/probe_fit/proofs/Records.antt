@@ -1,11 +1,11 @@
 -- What the verdict looks at: the records and nothing behind them, and of a bank and a row their word.
 use mathlib.Core.Path.{_≡_, refl, sym, ap, ap₂, subst, _∙_}
 use mathlib.Core.Bool.{Bool, true, false, not, _&&_, _||_, cond}
-use Prim.Native.Nat.{ℕ, _+_, _*_, _/_, _%_, _^_, _<_}
+use Prim.Native.Nat.{ℕ, _/_, _%_, _^_, _<_}
 use native.Mathlib.Omega.{arith}
 use lib.Dec.{T, leb, ltb, eqb, eqb→eq, eqb-refl}
 use lib.IntN.{ℤ, subℕ, natAbs, _-ℤ_}
-use Rattle.rules.specs.Cells.{every, leastFrom}
+use Rattle.rules.specs.Cells.{every}
 use Rattle.rules.proofs.Tests.{and-i, and-l, and-r, is-false, holds, same-test, every-same}
 use Rattle.probe_fit.specs.declared.Verdict.the-variants.{Refused}
 use Rattle.probe_fit.specs.Probes.{Probe, wordAt, bankAt, rowAt, onTime, tooShort, lateTick, probesRefusal, sameRow, near, fits, offset, leastOffset, decided, verdictOf}

@@ -1,14 +1,14 @@
 -- The closed form: an offset fits all pairs if it is within the jitter of the greatest and of the least difference.
-use mathlib.Core.Path.{_≡_, refl, sym, ap, ap₂, subst, _∙_}
+use mathlib.Core.Path.{_≡_, refl, sym, ap, subst, _∙_}
 use mathlib.Core.Bool.{Bool, true, false, not, _&&_, _||_, cond}
-use Prim.Native.Nat.{ℕ, zero, suc, _+_, _-_, _^_, _≤_, _<_, min, max}
+use Prim.Native.Nat.{ℕ, zero, suc, _+_, _-_, _^_, _≤_, _<_}
 use native.Mathlib.Omega.{arith}
 use lib.Dec.{T, leb, ltb, eqb, leb→le, le→leb, ltb→lt, nltb→le, eqb→eq, not-T, T-not}
 use lib.IntN.{ℤ}
 use Rattle.rules.specs.Cells.{every}
-use Rattle.rules.proofs.Tests.{and-i, and-l, and-r, and-assoc, or-l, or-r, holds, fails, not-or, not-not, same-test, every-at, every-all}
+use Rattle.rules.proofs.Tests.{and-i, and-l, and-r, and-assoc, holds, fails, not-or, not-not, same-test, every-at, every-all}
 use Rattle.probe_fit.specs.Probes.{Probe, tickAt, tooShort, onTime, lateTick, probesRefusal, sameRow, near, fits, offset, leastOffset}
-use Rattle.probe_fit.specs.Closed.{alike, gap, greatest, least, closed}
+use Rattle.probe_fit.specs.Closed.{alike, greatest, least, closed}
 use Rattle.probe_fit.specs.Claims.{ClosedForm}
 use Rattle.probe_fit.proofs.Integers.{near-bounds, bounds-near}
 use Rattle.probe_fit.proofs.Found.{Found, found, found-one}

@@ -1,6 +1,6 @@
 -- Small cases, computed by the definitions.
 use mathlib.Core.Path.{_≡_}
-use mathlib.Core.List.{List, [], _∷_}
+use mathlib.Core.List.{[], _∷_}
 use Prim.Native.Nat.{ℕ, _-_, _^_}
 use Rattle.probe_fit.specs.declared.Verdict.the-variants.{Fit, NoFit, Refused}
 use Rattle.probe_fit.specs.Probes.{Probe, lent, verdictOf, outOf}

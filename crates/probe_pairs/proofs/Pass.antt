@@ -1,11 +1,11 @@
 -- The pass over the pairs: what is known after i of them, and what it ends with.
 use mathlib.Core.Path.{_≡_, refl, sym, ap, ap₂, subst, _∙_}
 use mathlib.Core.List.{List}
-use mathlib.Core.Bool.{Bool, true, false, not, _&&_, cond}
+use mathlib.Core.Bool.{Bool, true, false, _&&_}
 use Prim.Native.Nat.{ℕ, zero, suc, _+_, _-_, _^_, _≤_, _<_, min, max}
 use native.Mathlib.Omega.{arith}
 use native.Mathlib.Numerals.{add-one}
-use lib.Dec.{T, ltb, eqb, lt→ltb, ltb→lt, T-not, not-T}
+use lib.Dec.{T, ltb, lt→ltb, ltb→lt, T-not, not-T}
 use lib.ListN.{getD}
 use Rattle.rules.specs.Cells.{every}
 use Rattle.rules.proofs.Tests.{and-i, and-l, and-r, cond-yes, cond-no, holds, fails, is-false, every-at}

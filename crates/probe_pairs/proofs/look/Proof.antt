@@ -1,14 +1,13 @@
 -- `probe_pairs::look`: by what the pass over the pairs found, and then by the ticks of each list that have no partner.
 use mathlib.Core.Path.{_≡_, sym, ap, subst, _∙_}
-use mathlib.Core.Bool.{Bool, true, false}
-use Prim.Native.Nat.{_≤_}
+use mathlib.Core.Bool.{true}
 use native.Mathlib.Omega.{arith}
 use lib.Dec.{T}
 use Rattle.rules.specs.Cells.{every}
 use Rattle.rules.proofs.Tests.{and-l, and-r}
 use Rattle.probe_fit.specs.Probes.{Probe, lent, onTime}
 use Rattle.probe_pairs.specs.Pairs.{pairsOf}
-use Rattle.probe_pairs.proofs.All.{Told, paired, pairsOnTime, late-pairs, late-first, late-second, pairs-told, spread-equal, spread-other}
+use Rattle.probe_pairs.proofs.All.{paired, pairsOnTime, late-pairs, late-first, late-second, pairs-told, spread-equal, spread-other}
 use borrow.Author.Needs.{needs}
 use borrow.Author.Tests.{not-true, not-false}
 use Rattle.probe_pairs.proofs.look.Statement.{statement}

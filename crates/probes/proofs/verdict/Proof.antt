@@ -1,8 +1,7 @@
 -- `probes::verdict`: by the refusals in their order, then by what the pass over the records found.
-use mathlib.Core.Path.{_≡_, sym, ap, _∙_}
+use mathlib.Core.Path.{_≡_, sym, _∙_}
 use mathlib.Core.Bool.{false}
 use Rattle.probe_fit.specs.Probes.{Probe, lent, tooShort}
-use Rattle.probe_pairs.specs.Pairs.{recordsOf}
 use Rattle.probe_pairs.proofs.All.{records-late, records-told, told-fits}
 use Rattle.probes.proofs.Laws.{long-enough, refused-first, refused-second, refused-jitter, refused-late, verdict-told}
 use borrow.Author.Needs.{needs}
