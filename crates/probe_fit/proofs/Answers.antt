@@ -1,37 +1,34 @@
 -- What the call leaves: 1 and the least offset that fits, 0 and 0 exactly where there is none, and −1,000 for two empty lists.
-use mathlib.Core.Path.{_≡_, refl, sym, ap, ap₂, subst, _∙_}
+use mathlib.Core.Path.{_≡_, refl, sym, ap, subst, _∙_}
 use mathlib.Core.Logic.{inl, inr}
 use mathlib.Core.List.{[], _∷_}
-use mathlib.Core.Bool.{Bool, true, false, not, _&&_, _||_, cond}
+use mathlib.Core.Bool.{Bool, true, false, not, _&&_, cond}
 use Prim.Native.Nat.{ℕ, zero, suc, _≤_, _<_}
 use native.Mathlib.Omega.{arith}
 use native.Mathlib.Decide.{ℕ-discrete, decLt}
-use lib.Dec.{T, leb, eqb, leb→le, le→leb, nleb→lt, eqb→eq, eqb·suc-zero, not-T, T-not}
+use lib.Dec.{T, leb, eqb, leb→le, le→leb, nleb→lt, eqb→eq, not-T, T-not}
 use lib.IntN.{ℤ, natAbs}
-use lib.ListN.{length, getD}
+use lib.ListN.{getD}
 use lib.Signed.{leZ}
 use mir.Syntax.{w64}
 use mir.Val.{ofZ, toZ}
-use borrow.Author.Tests.{eq-eqb, le-ltb}
+use borrow.Author.Tests.{eq-eqb}
 use Rattle.rules.specs.Cells.{every}
 use Rattle.rules.proofs.Tests.{and-i, and-l, and-r, holds, fails, is-true, cond-yes, cond-no, every-at}
-use Rattle.probe_fit.specs.declared.Verdict.the-variants.{Fit, NoFit, Refused}
-use Rattle.probe_fit.specs.Probes.{Probe, tooShort, lateTick, onTime, probesRefusal, sameRow, near, fits, offset, leastOffset, decided, verdictOf, codeOf, outOf}
+use Rattle.probe_fit.specs.declared.Verdict.the-variants.{Fit, NoFit}
+use Rattle.probe_fit.specs.Probes.{Probe, probesRefusal, sameRow, near, fits, offset, leastOffset, decided, verdictOf, codeOf, outOf}
 use Rattle.probe_fit.specs.Closed.{alike}
 use Rattle.probe_fit.specs.Claims.{LeastFit, AnswersLeast, Apart, NoFitExactly, EmptyFit}
 use Rattle.probe_fit.proofs.Integers.{numberOf, offset-of, number-most, offset-within, in-order, order-of, read-back}
+use Rattle.probe_fit.proofs.Refusals.{refused-exactly}
 use Rattle.probe_fit.proofs.Found.{Found, found, found-one}
-use Rattle.probe_fit.proofs.Room.{fits-is}
+use Rattle.probe_fit.proofs.Closed.{fits-is}
 
 -- ---- the verdict by the number
 
 pub verdict-decided : (x y : Probe) (j : ℕ) → probesRefusal x y j ≡ 0 → verdictOf x y j ≡ decided (leastOffset j x y)
 unfolding verdictOf
 verdict-decided x y j e = rw (eq-eqb (probesRefusal x y j) 0 e) refl
-
-pub verdict-refused : (x y : Probe) (j n : ℕ) → probesRefusal x y j ≡ suc n → verdictOf x y j ≡ Refused (suc n)
-unfolding verdictOf
-verdict-refused x y j n e = rw (e, eqb·suc-zero n) refl
 
 least-found : (x y : Probe) (j : ℕ) → Found (λ e. fits j (offset e) x y) 0 2001 (leastOffset j x y)
 unfolding leastOffset
@@ -40,7 +37,7 @@ least-found x y j = found (λ e. fits j (offset e) x y) 0 2001
 pub decided-fit : (r : ℕ) → r ≤ 2000 → decided r ≡ Fit r
 decided-fit r h = cond-yes (leb r 2000) (Fit r) NoFit (le→leb r 2000 h)
 
-pub decided-none : (r : ℕ) → 2000 < r → decided r ≡ NoFit
+decided-none : (r : ℕ) → 2000 < r → decided r ≡ NoFit
 decided-none r h = cond-no (leb r 2000) (Fit r) NoFit (not-T (leb r 2000) (λ t. let k = leb→le r 2000 t in omega arith))
 
 -- ---- the number that is found, and the offsets that fit
@@ -177,17 +174,18 @@ no-fit-exactly x y j before e = (there, back)
 
 -- ---- two empty lists
 
-not-short : (p : Probe) → p .count ≡ 0 → tooShort p ≡ false
-not-short p c = ap₂ _||_ (le-ltb (length (p .ticks)) (p .count) (omega (arith, c))) (le-ltb (length (p .rows)) (p .count) (omega (arith, c)))
-
-not-late : (p : Probe) → p .count ≡ 0 → lateTick p ≡ false
-unfolding lateTick
-not-late p c = ap (λ n. not (every n (onTime (p .ticks)))) c
-
 pub empty-fit : EmptyFit
-unfolding fits probesRefusal
+unfolding fits
 empty-fit x y j before cx cy h =
-    let accepted : probesRefusal x y j ≡ 0 = rw (not-short x cx, not-short y cy, le-ltb 1000 j h, not-late x cx, not-late y cy) refl in
+    let accepted : probesRefusal x y j ≡ 0 =
+    refused-exactly x y j .1
+    (record {
+      here = (omega (arith, cx), omega (arith, cx));
+      there = (omega (arith, cy), omega (arith, cy));
+      jitter = h;
+      first = λ i k. absurd (omega (arith, k, cx));
+      second = λ i k. absurd (omega (arith, k, cy));
+    }) in
     let fit : T (fits j (offset 0) x y) = rw (cx, cy) tt in
     let zero-found : Found (λ e. fits j (offset e) x y) 0 2001 0 =
     record { from = omega arith; most = omega arith; passes = λ k. fit; first = λ i a b. absurd (omega arith) } in

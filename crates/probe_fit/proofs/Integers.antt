@@ -28,7 +28,7 @@ neg-sub : (n : ℕ) → negsuc n ≡ subℕ 0 (suc n)
 neg-sub n = let e : n ≡ suc n - 1 = omega arith in ap negsuc e ∙ sym (sub-below 0 (suc n) (omega arith))
 
 -- a − b = c − d where a + d = c + b
-pub sub-same : (a b c d : ℕ) → a + d ≡ c + b → subℕ a b ≡ subℕ c d
+sub-same : (a b c d : ℕ) → a + d ≡ c + b → subℕ a b ≡ subℕ c d
 sub-same a b c d h = go (decLt a b)
   where
     go : Dec (a < b) → subℕ a b ≡ subℕ c d

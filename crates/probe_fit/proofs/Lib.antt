@@ -1,6 +1,7 @@
 pub mod Integers
 pub mod Found
-pub mod Room
+pub mod Refusals
+pub mod Closed
 pub mod Answers
 pub mod Records
 pub mod Samples

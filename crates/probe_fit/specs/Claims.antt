@@ -3,8 +3,9 @@ use mathlib.Core.Path.{_≡_}
 use mathlib.Core.Logic.{_⊎_}
 use mathlib.Core.List.{List, [], _∷_}
 use mathlib.Core.Bool.{not, cond}
-use Prim.Native.Nat.{ℕ, _≤_, _<_}
+use Prim.Native.Nat.{ℕ, suc, _^_, _≤_, _<_}
 use lib.Dec.{T, eqb}
+use lib.ListN.{length}
 use lib.IntN.{ℤ, negsuc, natAbs}
 use lib.Signed.{leZ}
 use mir.Syntax.{w64}
@@ -12,6 +13,39 @@ use mir.Val.{ofZ, toZ}
 use Rattle.rules.specs.Cells.{every}
 use Rattle.probe_fit.specs.Probes.{Probe, tickAt, wordAt, tooShort, probesRefusal, sameRow, near, fits, leastOffset, verdictOf, codeOf, outOf}
 use Rattle.probe_fit.specs.Closed.{alike, greatest, least, closed}
+
+-- ---- refusals
+
+-- both buffers hold the list
+abbrev pub Held : Probe → Type 0
+Held p = (p .count ≤ length (p .ticks)) × (p .count ≤ length (p .rows))
+
+-- every tick of the list is below 2^62
+abbrev pub OnTime : Probe → Type 0
+OnTime p = (i : ℕ) → i < p .count → tickAt p i < 2 ^ 62
+
+-- Nothing is refused exactly where the buffers hold the lists, the jitter is at most 1,000 and every tick of both lists is below 2^62; 6 is given where a
+-- buffer does not hold its list, and 18 where they do and something else is wrong.
+pub record Accepted (x y : Probe) (j : ℕ) : Type 0 where
+  pub here : Held x
+  pub there : Held y
+  pub jitter : j ≤ 1000
+  pub first : OnTime x
+  pub second : OnTime y
+
+abbrev pub RefusedExactly : Type 0
+RefusedExactly =
+    (x y : Probe) (j : ℕ)
+    → (probesRefusal x y j ≡ 0 → Accepted x y j)
+    × (Accepted x y j → probesRefusal x y j ≡ 0)
+    × ((Held x × Held y → ⊥) → probesRefusal x y j ≡ 6)
+    × (Held x → Held y → (Accepted x y j → ⊥) → probesRefusal x y j ≡ 18)
+
+-- A refusal's number is returned, and out is left as it was.
+abbrev pub RefusedLeaves : Type 0
+RefusedLeaves =
+    (x y : Probe) (j n : ℕ) (before : List ℕ) → probesRefusal x y j ≡ suc n
+    → (codeOf (verdictOf x y j) ≡ suc n) × (outOf (verdictOf x y j) before ≡ before)
 
 -- ---- the least d
 
@@ -37,7 +71,8 @@ pub record OtherRow (x y : Probe) : Type 0 where
   pub there : place < y .count
   pub other : T (not (sameRow x y place))
 
--- "the lists differ in length, bank or row, or no such d exists"
+-- "the lists differ in length, bank or row, or no such d exists": the last is that no d is within j of every difference. Where the second list is shorter
+-- than the first, the first of the three is so already.
 abbrev pub Apart : ℕ → Probe → Probe → Type 0
 Apart j x y =
     (x .count ≡ y .count → ⊥)
@@ -84,6 +119,8 @@ ClosedForm =
 -- ---- all of it
 
 pub record Theorems : Type 0 where
+  pub refusedExactly : RefusedExactly
+  pub refusedLeaves : RefusedLeaves
   pub answersLeast : AnswersLeast
   pub noFitExactly : NoFitExactly
   pub emptyFit : EmptyFit

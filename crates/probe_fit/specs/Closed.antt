@@ -12,17 +12,17 @@ unfoldable pub alike : Probe → Probe → Bool
 alike x y = eqb (x .count) (y .count) && every (x .count) (sameRow x y)
 
 -- "second tick minus first tick", plus 2^62: no negative number where both ticks are below 2^62
-abbrev pub gap : List ℕ → List ℕ → ℕ → ℕ
-gap firsts seconds i = getD seconds i 0 + 2 ^ 62 - getD firsts i 0
+abbrev pub difference : List ℕ → List ℕ → ℕ → ℕ
+difference firsts seconds i = getD seconds i 0 + 2 ^ 62 - getD firsts i 0
 
 -- the greatest and the least of the first n pairs' differences, and the ends of what a difference can be where there is no pair
 unfoldable pub greatest : List ℕ → List ℕ → ℕ → ℕ
 greatest firsts seconds zero = 0
-greatest firsts seconds (suc n) = max (greatest firsts seconds n) (gap firsts seconds n)
+greatest firsts seconds (suc n) = max (greatest firsts seconds n) (difference firsts seconds n)
 
 unfoldable pub least : List ℕ → List ℕ → ℕ → ℕ
 least firsts seconds zero = 2 ^ 63
-least firsts seconds (suc n) = min (least firsts seconds n) (gap firsts seconds n)
+least firsts seconds (suc n) = min (least firsts seconds n) (difference firsts seconds n)
 
 -- The number of the least offset, from the greatest difference g and the least one l: g less the jitter, at least −1,000. It fits if it is at most 1,000
 -- and at most l and the jitter; else 2,001.

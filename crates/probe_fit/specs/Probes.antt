@@ -17,6 +17,7 @@ pub record Probe : Type 0 where
   pub rows : List ℕ
   pub count : ℕ
 
+-- a probe from the buffers and the count of a call
 abbrev pub lent : List ℕ → List ℕ → ℕ → Probe
 lent ts rs n = record { ticks = ts; rows = rs; count = n }
 
@@ -39,6 +40,7 @@ rowAt p i = wordAt p i % 65536
 abbrev pub tooShort : Probe → Bool
 tooShort p = ltb (length (p .ticks)) (p .count) || ltb (length (p .rows)) (p .count)
 
+-- the tick at place i is below 2^62
 abbrev pub onTime : List ℕ → ℕ → Bool
 onTime ticks i = ltb (getD ticks i 0) (2 ^ 62)
 
@@ -46,7 +48,7 @@ onTime ticks i = ltb (getD ticks i 0) (2 ^ 62)
 unfoldable pub lateTick : Probe → Bool
 lateTick p = not (every (p .count) (onTime (p .ticks)))
 
--- "18 a jitter above 1,000 or a tick of 2^62 or more, before any verdict"; 6 comes before it, and 0 is for two lists that are looked at
+-- "18 a jitter above 1,000 or a tick of 2^62 or more, before any verdict"; 6 comes before it, and 0 is for neither
 unfoldable pub probesRefusal : Probe → Probe → ℕ → ℕ
 probesRefusal x y j = cond (tooShort x || tooShort y) 6 (cond (ltb 1000 j || lateTick x || lateTick y) 18 0)
 
@@ -72,9 +74,11 @@ offset number = subℕ number 1000
 unfoldable pub leastOffset : ℕ → Probe → Probe → ℕ
 leastOffset j x y = leastFrom (λ e. fits j (offset e) x y) 0 2001
 
+-- the verdict by the number that the search found
 abbrev pub decided : ℕ → Verdict
 decided number = cond (leb number 2000) (Fit number) NoFit
 
+-- the refusal if there is one, else what the search says
 unfoldable pub verdictOf : Probe → Probe → ℕ → Verdict
 verdictOf x y j = cond (eqb (probesRefusal x y j) 0) (decided (leastOffset j x y)) (Refused (probesRefusal x y j))
 

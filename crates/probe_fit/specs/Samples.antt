@@ -12,9 +12,9 @@ one tick word = lent (tick ∷ []) (word ∷ []) 1
 abbrev two : ℕ → ℕ → Probe
 two tick next = lent (tick ∷ next ∷ []) (7 ∷ 7 ∷ []) 2
 
--- so many records, and behind them a tick that would be refused
-abbrev before : ℕ → ℕ → Probe
-before tick n = lent (tick ∷ 2 ^ 62 ∷ []) (7 ∷ 9 ∷ []) n
+-- the first n of two records, of which the second has a late tick
+abbrev lateSecond : ℕ → ℕ → Probe
+lateSecond tick n = lent (tick ∷ 2 ^ 62 ∷ []) (7 ∷ 9 ∷ []) n
 
 pub record Cases : Type 0 where
   -- differences 0 and 5: d is 2 with a jitter of 3, and none fits with 2
@@ -31,13 +31,15 @@ pub record Cases : Type 0 where
   -- another bank, another row, another length
   pub bank : verdictOf (one 5 7) (one 5 65543) 0 ≡ NoFit
   pub row : verdictOf (one 5 7) (one 5 8) 0 ≡ NoFit
-  pub length : verdictOf (before 5 1) (before 5 0) 0 ≡ NoFit
+  pub length : verdictOf (lateSecond 5 1) (lateSecond 5 0) 0 ≡ NoFit
   -- two empty lists
-  pub empty : verdictOf (before 5 0) (before 6 0) 0 ≡ Fit 0
+  pub empty : verdictOf (lateSecond 5 0) (lateSecond 6 0) 0 ≡ Fit 0
   pub word : outOf (Fit 0) [] ≡ 1 ∷ 18446744073709550616 ∷ []
-  -- a tick that has no partner; a jitter; a count, which comes before both
-  pub late : verdictOf (before 5 1) (before 5 2) 0 ≡ Refused 18
-  pub jitter : verdictOf (before 5 0) (before 5 0) 1001 ≡ Refused 18
-  pub short : verdictOf (before 5 2) (before 5 3) 1001 ≡ Refused 6
+  -- a late tick without a partner, in either list, and one behind a pair with another row; a jitter; a count, which comes before both
+  pub late : verdictOf (lateSecond 5 1) (lateSecond 5 2) 0 ≡ Refused 18
+  pub lateFirst : verdictOf (lateSecond 5 2) (lateSecond 5 1) 0 ≡ Refused 18
+  pub lateBehind : verdictOf (lateSecond 5 2) (lent (5 ∷ 6 ∷ []) (8 ∷ 9 ∷ []) 2) 0 ≡ Refused 18
+  pub jitter : verdictOf (lateSecond 5 0) (lateSecond 5 0) 1001 ≡ Refused 18
+  pub short : verdictOf (lateSecond 5 2) (lateSecond 5 3) 1001 ≡ Refused 6
   pub shortTicks : verdictOf (lent [] (7 ∷ []) 1) (one 5 7) 0 ≡ Refused 6
   pub shortRows : verdictOf (one 5 7) (lent (5 ∷ []) [] 1) 0 ≡ Refused 6

@@ -10,7 +10,7 @@ use lib.ListN.{getD}
 use Rattle.rules.specs.Cells.{every}
 use Rattle.rules.proofs.Tests.{and-i, and-l, and-r, cond-yes, cond-no, holds, fails, is-false, every-at}
 use Rattle.probe_fit.specs.Probes.{onTime}
-use Rattle.probe_fit.specs.Closed.{gap, greatest, least}
+use Rattle.probe_fit.specs.Closed.{difference, greatest, least}
 use Rattle.probe_pairs.specs.declared.Records.the-variants.{Late, Spread}
 use Rattle.probe_pairs.specs.Pairs.{sameWord, pairsOf}
 
@@ -43,7 +43,7 @@ module _ (ts rs us ss : List ℕ) where
 
   -- one pair more
   pub passed-more : (i : ℕ) (same same' : Bool) (g g' l l' : ℕ) → (onTime ts i && onTime us i) ≡ true
-      → same' ≡ (same && sameWord rs ss i) → g' ≡ max g (gap ts us i) → l' ≡ min l (gap ts us i) → Passed i same g l → Passed (i + 1) same' g' l'
+      → same' ≡ (same && sameWord rs ss i) → g' ≡ max g (difference ts us i) → l' ≡ min l (difference ts us i) → Passed i same g l → Passed (i + 1) same' g' l'
   unfolding greatest least
   passed-more i same same' g g' l l' t s m n p =
       let b = both-on-time (getD ts i 0) (getD us i 0) t in
@@ -51,8 +51,8 @@ module _ (ts rs us ss : List ℕ) where
         first = on-time-more ts i (p .first) (b .0);
         second = on-time-more us i (p .second) (b .1);
         same-is = s ∙ ap (λ q. q && sameWord rs ss i) (p .same-is) ∙ ap (λ k. every k (sameWord rs ss)) (sym (add-one i));
-        greatest-is = m ∙ ap (λ k. max k (gap ts us i)) (p .greatest-is) ∙ ap (greatest ts us) (sym (add-one i));
-        least-is = n ∙ ap (λ k. min k (gap ts us i)) (p .least-is) ∙ ap (least ts us) (sym (add-one i));
+        greatest-is = m ∙ ap (λ k. max k (difference ts us i)) (p .greatest-is) ∙ ap (greatest ts us) (sym (add-one i));
+        least-is = n ∙ ap (λ k. min k (difference ts us i)) (p .least-is) ∙ ap (least ts us) (sym (add-one i));
       }
 
   -- a pair with a late tick

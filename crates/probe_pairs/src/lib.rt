@@ -62,9 +62,9 @@ fn pairs(xticks: &[u64], xrows: &[u32], yticks: &[u64], yrows: &[u32], n: usize)
         if !on_time(x, y) {
             return Records::Late;
         }
-        let gap = y + 4611686018427387904 - x;
-        greatest = larger(greatest, gap);
-        least = smaller(least, gap);
+        let difference = y + 4611686018427387904 - x;
+        greatest = larger(greatest, difference);
+        least = smaller(least, difference);
         same = still_same(same, xrows[i], yrows[i]);
         i += 1;
     }

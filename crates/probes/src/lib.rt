@@ -25,7 +25,7 @@ fn less(a: u64, b: u64) -> u64
     if b <= a { a - b } else { 0 }
 }
 
-// The verdict from the greatest and the least difference plus 2^62, for lists that are alike; for others they do not fit.
+// The verdict from the greatest and the least difference plus 2^62, for lists that are alike; others do not fit.
 fn decide(jitter: u64, alike: bool, greatest: u64, least: u64) -> Verdict
     requires { ⌜ (jitter ≤ 1000) × (greatest ≤ 2 ^ 63) × (least ≤ 2 ^ 63) ⌝ }
     ensures { λ r. ⌜ r ≡ decided (cond alike (closed jitter greatest least) 2001) ⌝ }
@@ -89,8 +89,9 @@ fn twos_complement(number: u64) -> u64
 
 // Whether the lists of two probes fit, and the least offset d of their clocks: 0, and in out 1 and d, or 0 and 0 where they do not fit; or the
 // number of the refusal, and out as it was.
-// It rules out: another offset than the least, a jitter that is taken one too strictly, lists of different length, bank or row that fit, a late
-// tick without a partner that is not refused, another offset than −1,000 for two empty lists, a refusal that writes, a look behind the records.
+// It rules out: another offset than the least, a difference of exactly the jitter that does not fit, lists of different length, bank or row that
+// fit, a late tick without a partner that is not refused, another offset than −1,000 for two empty lists, a refusal that writes, an answer that
+// depends on cells behind the records.
 #[no_mangle]
 pub extern "C" fn throttle_fit_probes(
     xticks: &[u64],

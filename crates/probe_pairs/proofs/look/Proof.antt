@@ -24,6 +24,9 @@ y c = lent (c .args .yticks .now) (c .args .yrows .now) (c .args .ycount)
 abbrev start : tie.After-pairs → tie.Start
 start c = c .before .before .before .before .before .before
 
+abbrev passed : tie.After-paired → tie.After-pairs
+passed c = c .before .before
+
 abbrev first : tie.After-rest-on-time → tie.After-paired
 first c = c .before .before
 
@@ -35,9 +38,9 @@ pairs-is c =
     let s = start c in
     c .pairs .ensures ∙ ap (pairsOf (x s .ticks) (x s .rows) (y s .ticks) (y s .rows)) (c .before .smaller .ensures)
 
-on-time : (c : tie.After-paired) → let s = start (c .before .before) in T (pairsOnTime (x s) (y s))
+on-time : (c : tie.After-paired) → let s = start (passed c) in T (pairsOnTime (x s) (y s))
 on-time c =
-    let k = c .before .before in
+    let k = passed c in
     let s = start k in
     pairs-told (x s) (y s) (sym (c .paired .given .1) ∙ pairs-is k) .on-time
 
@@ -55,7 +58,7 @@ enum-known-paired c = search needs
 
 rest-on-time-requires : tie.Need-rest-on-time-requires
 rest-on-time-requires c κs =
-    let k = c .before .before .before in
+    let k = passed (c .before) in
     let s = start k in
     let n = k .before .smaller in (
       omega (arith, n .ensures),
@@ -67,13 +70,13 @@ rest-on-time-requires c κs =
 returns : tie.Need-returns
 returns c =
     let r = c .before in
-    let s = start (first r .before .before) in
+    let s = start (passed (first r)) in
     late-first (x s) (y s) (sym (r .rest-on-time .ensures) ∙ not-true (r .rest-on-time .result) (c .if1 .taken))
 
 rest-on-time-requires-2 : tie.Need-rest-on-time-requires-2
 rest-on-time-requires-2 c κs =
     let p = first (c .before) in
-    let k = p .before .before in
+    let k = passed p in
     let s = start k in
     let n = k .before .smaller in (
       omega (arith, n .ensures),
@@ -85,20 +88,20 @@ rest-on-time-requires-2 c κs =
 returns-2 : tie.Need-returns-2
 returns-2 c =
     let r = c .before in
-    let s = start (second r .before .before) in
+    let s = start (passed (second r)) in
     late-second (x s) (y s) (sym (r .rest-on-time2 .ensures) ∙ not-true (r .rest-on-time2 .result) (c .if2 .taken))
 
 -- every tick of both lists is on time
-first-all : (c : tie.Else1) → let s = start (first (c .before) .before .before) in every (x s .count) (onTime (x s .ticks)) ≡ true
+first-all : (c : tie.Else1) → let s = start (passed (first (c .before))) in every (x s .count) (onTime (x s .ticks)) ≡ true
 first-all c = sym (c .before .rest-on-time .ensures) ∙ not-false (c .before .rest-on-time .result) (c .if1 .left)
 
-second-all : (c : tie.Else2) → let s = start (second (c .before) .before .before) in every (y s .count) (onTime (y s .ticks)) ≡ true
+second-all : (c : tie.Else2) → let s = start (passed (second (c .before))) in every (y s .count) (onTime (y s .ticks)) ≡ true
 second-all c = sym (c .before .rest-on-time2 .ensures) ∙ not-false (c .before .rest-on-time2 .result) (c .if2 .left)
 
 returns-3 : tie.Need-returns-3
 returns-3 c =
     let p = second (c .before .before) in
-    let k = p .before .before in
+    let k = passed p in
     let s = start k in
     spread-other (x s) (y s) (first-all (c .before .before .before)) (second-all (c .before)) (c .if3 .taken)
     (pairs-told (x s) (y s) (sym (p .paired .given .1) ∙ pairs-is k))
@@ -112,7 +115,7 @@ returns-4 c =
 returns-5 : tie.Need-returns-5
 returns-5 c =
     let p = second (c .before .before) in
-    let k = p .before .before in
+    let k = passed p in
     let s = start k in
     spread-equal (x s) (y s) (first-all (c .before .before .before)) (second-all (c .before)) (c .if3 .left)
     (pairs-told (x s) (y s) (sym (p .paired .given .1) ∙ pairs-is k))

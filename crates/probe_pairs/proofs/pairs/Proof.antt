@@ -69,15 +69,15 @@ returns c =
     let a = start k .args in
     passed-late (a .xticks .now) (a .xrows .now) (a .yticks .now) (a .yrows .now) (k .loop .i) (a .n) (omega arith) (late c)
 
-add-gap : tie.Need-add-gap Inv-loop μ-loop
-add-gap c =
+add-difference : tie.Need-add-difference Inv-loop μ-loop
+add-difference c =
     let k = at (c .before) in
     let a = start k .args in
     let b = both-on-time (getD (a .xticks .now) (k .loop .i) 0) (getD (a .yticks .now) (k .loop .i) 0) (on-time c) in
     record { fits = omega arith }
 
-sub-gap : tie.Need-sub-gap Inv-loop μ-loop
-sub-gap c =
+sub-difference : tie.Need-sub-difference Inv-loop μ-loop
+sub-difference c =
     let k = at (c .before) in
     let a = start k .args in
     omega (arith, both-on-time (getD (a .xticks .now) (k .loop .i) 0) (getD (a .yticks .now) (k .loop .i) 0) (on-time c))
@@ -140,8 +140,8 @@ pairs-spec =
     shared-slice-read-y
     on-time-requires
     returns
-    add-gap
-    sub-gap
+    add-difference
+    sub-difference
     larger-requires
     smaller-requires
     mul-still-same

@@ -4,7 +4,7 @@ use mathlib.Core.List.{List, [], _∷_}
 use Prim.Native.Nat.{ℕ}
 use Rattle.probe_fit.specs.declared.Verdict.{Verdict}
 use Rattle.probe_fit.specs.Probes.{Probe, lent, verdictOf, codeOf, outOf}
-use Rattle.probes.proofs.Laws.{number-most}
+use Rattle.probes.proofs.Laws.{fit-most}
 use borrow.Author.Needs.{needs}
 use Rattle.probes.proofs.throttle_fit_probes.Statement.{statement}
 use Rattle.probes.proofs.throttle_fit_probes.Tie as tie
@@ -41,7 +41,7 @@ twos-complement-requires : tie.Need-twos-complement-requires
 twos-complement-requires c κs =
     let a = c .before in
     let k = a .before .before in
-    number-most (x (start k)) (y (start k)) (start k .args .jitter) _ (sym (a .answer .given .1) ∙ k .verdict .ensures)
+    fit-most (x (start k)) (y (start k)) (start k .args .jitter) _ (sym (a .answer .given .1) ∙ k .verdict .ensures)
 
 enum-told : tie.Need-enum-told
 enum-told c = search needs

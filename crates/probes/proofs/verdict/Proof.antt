@@ -2,8 +2,9 @@
 use mathlib.Core.Path.{_≡_, sym, _∙_}
 use mathlib.Core.Bool.{false}
 use Rattle.probe_fit.specs.Probes.{Probe, lent, tooShort}
+use Rattle.probe_fit.proofs.Refusals.{held}
 use Rattle.probe_pairs.proofs.All.{records-late, records-told, told-fits}
-use Rattle.probes.proofs.Laws.{long-enough, refused-first, refused-second, refused-jitter, refused-late, verdict-told}
+use Rattle.probes.proofs.Laws.{refused-first, refused-second, refused-jitter, refused-late, verdict-told}
 use borrow.Author.Needs.{needs}
 use Rattle.probes.proofs.verdict.Statement.{statement}
 use Rattle.probes.proofs.verdict.Tie as tie
@@ -24,6 +25,10 @@ start2 c = start (c .before .before)
 
 abbrev start3 : tie.Else3 → tie.Start
 start3 c = start2 (c .before .before)
+
+-- where the buffers of the first list have been found long enough
+abbrev measured : tie.Else2 → tie.Else1
+measured c = c .before .before
 
 first-long : (c : tie.Else1) → tooShort (x (start (c .before))) ≡ false
 first-long c = sym (c .before .too-short .ensures) ∙ c .if1 .left
@@ -53,14 +58,14 @@ returns-3 : tie.Need-returns-3
 returns-3 c =
     let k = c .before in
     let s = start2 (k .before) in
-    refused-jitter (x s) (y s) (s .args .jitter) (first-long (k .before .before)) (second-long k) (c .if3 .taken)
+    refused-jitter (x s) (y s) (s .args .jitter) (first-long (measured k)) (second-long k) (c .if3 .taken)
 
 look-requires : tie.Need-look-requires
 look-requires c κs =
     let k = c .before in
     let s = start3 c in
-    let a = long-enough (x s) (first-long (k .before .before)) in
-    let b = long-enough (y s) (second-long k) in
+    let a = held (x s) (first-long (measured k)) in
+    let b = held (y s) (second-long k) in
     (a .0, a .1, b .0, b .1)
 
 enum-told : tie.Need-enum-told
@@ -82,7 +87,7 @@ returns-4 c =
     let k = c .before .before in
     let e = k .before in
     let s = start3 e in
-    refused-late (x s) (y s) (s .args .jitter) (first-long (e .before .before .before)) (second-long (e .before)) (e .if3 .left)
+    refused-late (x s) (y s) (s .args .jitter) (first-long (measured (e .before))) (second-long (e .before)) (e .if3 .left)
     (records-late (x s) (y s) (sym (c .enum-told .given .1) ∙ k .look .ensures))
 
 returns-5 : tie.Need-returns-5
@@ -92,7 +97,7 @@ returns-5 c =
     let e = k .before in
     let s = start3 e in
     c .decide .ensures
-    ∙ verdict-told (x s) (y s) (s .args .jitter) (first-long (e .before .before .before)) (second-long (e .before)) (e .if3 .left)
+    ∙ verdict-told (x s) (y s) (s .args .jitter) (first-long (measured (e .before))) (second-long (e .before)) (e .if3 .left)
     (records-told (x s) (y s) (sym (r .records .given .1) ∙ k .look .ensures))
 
 pub verdict-spec : {M : Type 1} → statement M

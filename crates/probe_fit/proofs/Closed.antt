@@ -1,16 +1,17 @@
 -- The closed form: an offset fits all pairs if it is within the jitter of the greatest and of the least difference.
 use mathlib.Core.Path.{_≡_, refl, sym, ap, subst, _∙_}
-use mathlib.Core.Bool.{Bool, true, false, not, _&&_, _||_, cond}
+use mathlib.Core.Bool.{Bool, true, false, not, _&&_, cond}
 use Prim.Native.Nat.{ℕ, zero, suc, _+_, _-_, _^_, _≤_, _<_}
 use native.Mathlib.Omega.{arith}
-use lib.Dec.{T, leb, ltb, eqb, leb→le, le→leb, ltb→lt, nltb→le, eqb→eq, not-T, T-not}
+use lib.Dec.{T, leb, eqb, leb→le, le→leb, eqb→eq, not-T, T-not}
 use lib.IntN.{ℤ}
 use Rattle.rules.specs.Cells.{every}
-use Rattle.rules.proofs.Tests.{and-i, and-l, and-r, and-assoc, holds, fails, not-or, not-not, same-test, every-at, every-all}
-use Rattle.probe_fit.specs.Probes.{Probe, tickAt, tooShort, onTime, lateTick, probesRefusal, sameRow, near, fits, offset, leastOffset}
+use Rattle.rules.proofs.Tests.{and-i, and-l, and-r, and-assoc, holds, fails, same-test, every-at, every-all}
+use Rattle.probe_fit.specs.Probes.{Probe, tickAt, sameRow, near, fits, offset, leastOffset}
 use Rattle.probe_fit.specs.Closed.{alike, greatest, least, closed}
-use Rattle.probe_fit.specs.Claims.{ClosedForm}
+use Rattle.probe_fit.specs.Claims.{Accepted, ClosedForm}
 use Rattle.probe_fit.proofs.Integers.{near-bounds, bounds-near}
+use Rattle.probe_fit.proofs.Refusals.{accepted}
 use Rattle.probe_fit.proofs.Found.{Found, found, found-one}
 
 -- ---- a test that is two
@@ -35,63 +36,37 @@ alike-counts x y u =
     eqb→eq (x .count) (y .count)
     (and-l (eqb (x .count) (y .count)) (every (x .count) (sameRow x y)) (holds (eqb (x .count) (y .count) && every (x .count) (sameRow x y)) u))
 
--- ---- the jitter's room
+-- ---- within the jitter of the greatest and of the least difference
 
 -- an offset is within j of the greatest difference g and of the least one l
-abbrev Room : ℕ → ℕ → ℕ → ℕ → Type 0
-Room j e g l = (g + 1000 ≤ e + 2 ^ 62 + j) × (e + 2 ^ 62 ≤ l + j + 1000)
+abbrev Within : ℕ → ℕ → ℕ → ℕ → Type 0
+Within j e g l = (g + 1000 ≤ e + 2 ^ 62 + j) × (e + 2 ^ 62 ≤ l + j + 1000)
 
 abbrev Early : Probe → ℕ → Type 0
 Early p n = (i : ℕ) → i < n → tickAt p i < 2 ^ 62
 
 module _ (j e : ℕ) (x y : Probe) where
-  near-room : (n : ℕ) → e ≤ 2001 → Early x n → Early y n → T (every n (near j (offset e) x y)) → Room j e (greatest (x .ticks) (y .ticks) n) (least (x .ticks) (y .ticks) n)
+  near-within : (n : ℕ) → e ≤ 2001 → Early x n → Early y n → T (every n (near j (offset e) x y)) → Within j e (greatest (x .ticks) (y .ticks) n) (least (x .ticks) (y .ticks) n)
   unfolding near greatest least
-  near-room zero m a b t = (omega arith, omega arith)
-  near-room (suc n) m a b t =
+  near-within zero m a b t = (omega arith, omega arith)
+  near-within (suc n) m a b t =
       let p : ℕ → Bool = near j (offset e) x y in
-      let ih = near-room n m (λ i h. a i (omega arith)) (λ i h. b i (omega arith)) (and-l (every n p) (p n) t) in
+      let ih = near-within n m (λ i h. a i (omega arith)) (λ i h. b i (omega arith)) (and-l (every n p) (p n) t) in
       let k = near-bounds j e (tickAt x n) (tickAt y n) (and-r (every n p) (p n) t) in
       let u = a n (omega arith) in
       let v = b n (omega arith) in
       (omega arith, omega arith)
 
-  room-near : (n : ℕ) → Early x n → Early y n → Room j e (greatest (x .ticks) (y .ticks) n) (least (x .ticks) (y .ticks) n) → T (every n (near j (offset e) x y))
+  within-near : (n : ℕ) → Early x n → Early y n → Within j e (greatest (x .ticks) (y .ticks) n) (least (x .ticks) (y .ticks) n) → T (every n (near j (offset e) x y))
   unfolding near greatest least
-  room-near zero a b r = tt
-  room-near (suc n) a b r =
+  within-near zero a b r = tt
+  within-near (suc n) a b r =
       let p : ℕ → Bool = near j (offset e) x y in
       let u = a n (omega arith) in
       let v = b n (omega arith) in
       and-i (every n p) (p n)
-      (room-near n (λ i h. a i (omega arith)) (λ i h. b i (omega arith)) (omega arith, omega arith))
+      (within-near n (λ i h. a i (omega arith)) (λ i h. b i (omega arith)) (omega arith, omega arith))
       (bounds-near j e (tickAt x n) (tickAt y n) (omega arith) (omega arith))
-
--- ---- what is known where nothing is refused
-
-pub record Accepted (x y : Probe) (j : ℕ) : Type 0 where
-  pub here : T (not (tooShort x))
-  pub there : T (not (tooShort y))
-  pub jitter : j ≤ 1000
-  pub first : Early x (x .count)
-  pub second : Early y (y .count)
-
-early : (p : Probe) → T (not (lateTick p)) → Early p (p .count)
-unfolding lateTick
-early p h i k = ltb→lt (tickAt p i) (2 ^ 62) (every-at (p .count) (onTime (p .ticks)) (not-not (every (p .count) (onTime (p .ticks))) h) i k)
-
-pub accepted : (x y : Probe) (j : ℕ) → probesRefusal x y j ≡ 0 → Accepted x y j
-unfolding probesRefusal
-accepted x y j = go (tooShort x || tooShort y) refl (ltb 1000 j || lateTick x || lateTick y) refl
-  where
-    go : (a : Bool) → (tooShort x || tooShort y) ≡ a → (b : Bool) → (ltb 1000 j || lateTick x || lateTick y) ≡ b → _≡_ {A = ℕ} (cond a 6 (cond b 18 0)) 0 → Accepted x y j
-    go true s b t e = absurd (omega (arith, e))
-    go false s true t e = absurd (omega (arith, e))
-    go false s false t e =
-        let u = not-or (tooShort x) (tooShort y) (fails (tooShort x || tooShort y) s) in
-        let v = not-or (ltb 1000 j || lateTick x) (lateTick y) (fails (ltb 1000 j || lateTick x || lateTick y) t) in
-        let w = not-or (ltb 1000 j) (lateTick x) (v .0) in
-        record { here = u .0; there = u .1; jitter = nltb→le 1000 j (w .0); first = early x (w .1); second = early y (v .1) }
 
 -- ---- the closed form
 
@@ -122,29 +97,36 @@ module _ (x y : Probe) (j : ℕ) (ok : Accepted x y j) where
     by-near : (e : ℕ) → passes e ≡ every (x .count) (near j (offset e) x y)
     by-near e = fits-is j (offset e) x y ∙ ap (λ q. q && every (x .count) (near j (offset e) x y)) u
 
-    room : (e : ℕ) → e ≤ 2001 → T (passes e) → Room j e g l
-    room e m t = near-room j e x y (x .count) m (ok .first) second (subst T (by-near e) t)
+    within : (e : ℕ) → e ≤ 2001 → T (passes e) → Within j e g l
+    within e m t = near-within j e x y (x .count) m (ok .first) second (subst T (by-near e) t)
 
-    in-room : (e : ℕ) → Room j e g l → T (passes e)
-    in-room e r = subst T (sym (by-near e)) (room-near j e x y (x .count) (ok .first) second r)
+    passes-within : (e : ℕ) → Within j e g l → T (passes e)
+    passes-within e r = subst T (sym (by-near e)) (within-near j e x y (x .count) (ok .first) second r)
+
+    -- the number of the closed form, and the two tests that it has to pass
+    abbrev e : ℕ
+    e = g + 1000 - (2 ^ 62 + j)
+
+    abbrev low : Bool
+    low = leb e 2000
+
+    abbrev near-least : Bool
+    near-least = leb (e + 2 ^ 62) (l + j + 1000)
 
     closed-found : Found passes 0 2001 (closed j g l)
     unfolding closed
-    closed-found = go (leb e 2000 && leb (e + 2 ^ 62) (l + j + 1000)) refl
+    closed-found = go (low && near-least) refl
       where
-        e : ℕ
-        e = g + 1000 - (2 ^ 62 + j)
-
-        go : (b : Bool) → (leb e 2000 && leb (e + 2 ^ 62) (l + j + 1000)) ≡ b → Found passes 0 2001 (cond b e 2001)
+        go : (b : Bool) → (low && near-least) ≡ b → Found passes 0 2001 (cond b e 2001)
         go true k =
-            let t = holds (leb e 2000 && leb (e + 2 ^ 62) (l + j + 1000)) k in
-            let a : e ≤ 2000 = leb→le e 2000 (and-l (leb e 2000) (leb (e + 2 ^ 62) (l + j + 1000)) t) in
-            let b : e + 2 ^ 62 ≤ l + j + 1000 = leb→le (e + 2 ^ 62) (l + j + 1000) (and-r (leb e 2000) (leb (e + 2 ^ 62) (l + j + 1000)) t) in
+            let t = holds (low && near-least) k in
+            let a : e ≤ 2000 = leb→le e 2000 (and-l low near-least t) in
+            let b : e + 2 ^ 62 ≤ l + j + 1000 = leb→le (e + 2 ^ 62) (l + j + 1000) (and-r low near-least t) in
             record {
               from = omega arith;
               most = omega arith;
-              passes = λ h. in-room e (omega arith, b);
-              first = λ i v h. not-T (passes i) (λ f. let r = room i (omega arith) f in omega arith);
+              passes = λ h. passes-within e (omega arith, b);
+              first = λ i v h. not-T (passes i) (λ f. let r = within i (omega arith) f in omega arith);
             }
         go false k =
             record {
@@ -152,9 +134,9 @@ module _ (x y : Probe) (j : ℕ) (ok : Accepted x y j) where
               most = omega arith;
               passes = λ h. absurd (omega arith);
               first = λ i v h. not-T (passes i) (λ f.
-                  let r = room i (omega arith) f in
-                  T-not (leb e 2000 && leb (e + 2 ^ 62) (l + j + 1000)) (fails (leb e 2000 && leb (e + 2 ^ 62) (l + j + 1000)) k)
-                  (and-i (leb e 2000) (leb (e + 2 ^ 62) (l + j + 1000)) (le→leb e 2000 (omega arith)) (le→leb (e + 2 ^ 62) (l + j + 1000) (omega arith))));
+                  let r = within i (omega arith) f in
+                  T-not (low && near-least) (fails (low && near-least) k)
+                  (and-i low near-least (le→leb e 2000 (omega arith)) (le→leb (e + 2 ^ 62) (l + j + 1000) (omega arith))));
             }
 
   form-found : Found passes 0 2001 (cond (alike x y) (closed j g l) 2001)
