@@ -204,7 +204,10 @@ static void each_length(void)
         for (uint64_t second = 0; second <= 5; second++) {
             pair(lists, 5, differences);
             lists[0].count = first, lists[1].count = second;
-            /* behind the shorter list: other rows, and ticks that are refused in a list */
+            /* behind the shorter list a record that would fit */
+            if (first != second)
+                differ(lists, 5);
+            /* behind both: other rows, and ticks that are refused in a list */
             for (uint64_t k = first; k < 5; k++)
                 lists[0].ticks[k] = UINT64_MAX - k, lists[0].rows[k] = 77;
             for (uint64_t k = second; k < 5; k++)
