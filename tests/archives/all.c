@@ -158,7 +158,8 @@ static void check_probes(void)
               throttle_probes_offset(out) == -1000,
           "throttle_fit_probes does not answer -1000 for two empty lists");
     out[0] = out[1] = 7;
-    check(throttle_fit_probes(first, 3, rows, 3, 3, second, 3, others, 3, 3, THROTTLE_PROBES_MOST_JITTER + 1, out) == 18,
+    check(throttle_fit_probes(first, 3, rows, 3, 3, second, 3, others, 3, 3, THROTTLE_PROBES_MOST_JITTER + 1, out) ==
+              THROTTLE_BAD_PROBES,
           "throttle_fit_probes takes a jitter of 1,001");
     check(throttle_fit_probes(first, 3, rows, 3, 3, second, 3, others, 2, 3, THROTTLE_PROBES_MOST_JITTER + 1, out) ==
               THROTTLE_SHORT_BUFFER,

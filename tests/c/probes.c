@@ -10,6 +10,9 @@
 #include <stdlib.h>
 #include <string.h>
 
+_Static_assert(THROTTLE_SHORT_BUFFER == 6 && THROTTLE_BAD_PROBES == 18, "the numbers of the refusals");
+_Static_assert(THROTTLE_PROBES_MOST_JITTER == 1000 && THROTTLE_PROBES_OUT == 2, "the greatest jitter, and the words of out");
+
 enum { GUARDS = 4, MOST = 8, MANY = 3000 };
 static const uint64_t guard = UINT64_C(0xA5C396E17B2D4F18), before = UINT64_C(0x1111222233334444);
 static const uint64_t late = UINT64_C(1) << 62;
@@ -71,7 +74,7 @@ static uint32_t ask(const struct list lists[2], uint64_t jitter, uint64_t out[TH
 static void fits(const struct list lists[2], uint64_t jitter, int64_t d)
 {
     uint64_t out[THROTTLE_PROBES_OUT];
-    CHECK(ask(lists, jitter, out) == 0);
+    CHECK(ask(lists, jitter, out) == THROTTLE_ANSWERED);
     CHECK(out[0] == 1 && out[1] == (uint64_t)d && throttle_probes_offset(out) == d);
 }
 
@@ -79,7 +82,7 @@ static void fits(const struct list lists[2], uint64_t jitter, int64_t d)
 static void differ(const struct list lists[2], uint64_t jitter)
 {
     uint64_t out[THROTTLE_PROBES_OUT];
-    CHECK(ask(lists, jitter, out) == 0);
+    CHECK(ask(lists, jitter, out) == THROTTLE_ANSWERED);
     CHECK(out[0] == 0 && out[1] == 0 && throttle_probes_offset(out) == 0);
 }
 
@@ -229,15 +232,15 @@ static void too_short(void)
         for (uint64_t tick = late - 1; tick <= late; tick++) {
             pair(lists, 3, differences);
             lists[0].ticks[0] = tick;
-            lists[0].ticks_len = 2, refused(6, lists, jitter);
-            lists[0].ticks_len = 3, lists[0].rows_len = 2, refused(6, lists, jitter);
-            lists[0].ticks_len = lists[0].rows_len = 0, refused(6, lists, jitter);
+            lists[0].ticks_len = 2, refused(THROTTLE_SHORT_BUFFER, lists, jitter);
+            lists[0].ticks_len = 3, lists[0].rows_len = 2, refused(THROTTLE_SHORT_BUFFER, lists, jitter);
+            lists[0].ticks_len = lists[0].rows_len = 0, refused(THROTTLE_SHORT_BUFFER, lists, jitter);
             lists[0].ticks_len = lists[0].rows_len = 3;
             for (size_t k = 0; k < sizeof counts / sizeof *counts; k++)
-                lists[0].count = counts[k], refused(6, lists, jitter);
+                lists[0].count = counts[k], refused(THROTTLE_SHORT_BUFFER, lists, jitter);
         }
     pair(lists, 0, differences);
-    lists[0].count = 1, refused(6, lists, 0);
+    lists[0].count = 1, refused(THROTTLE_SHORT_BUFFER, lists, 0);
 }
 
 /* Ticks of 2^62 or more at each place, with a partner or without, and jitters above 1,000; before any verdict. */
@@ -252,16 +255,16 @@ static void too_great(void)
             for (size_t k = 0; k < sizeof ticks / sizeof *ticks; k++) {
                 pair(lists, 4, differences);
                 lists[1].count = second;
-                lists[0].ticks[place] = ticks[k], refused(18, lists, 5);
-                lists[0].rows[0] ^= 1, refused(18, lists, 5);
+                lists[0].ticks[place] = ticks[k], refused(THROTTLE_BAD_PROBES, lists, 5);
+                lists[0].rows[0] ^= 1, refused(THROTTLE_BAD_PROBES, lists, 5);
             }
         pair(lists, 4, differences);
         lists[1].count = second;
         for (size_t k = 0; k < sizeof jitters / sizeof *jitters; k++)
-            refused(18, lists, jitters[k]);
+            refused(THROTTLE_BAD_PROBES, lists, jitters[k]);
     }
     pair(lists, 0, differences);
-    refused(18, lists, 1001);
+    refused(THROTTLE_BAD_PROBES, lists, 1001);
     /* the last ticks that are taken */
     pair(lists, 1, differences);
     lists[0].ticks[0] = late - 4, lists[1].ticks[0] = late - 1;

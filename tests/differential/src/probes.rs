@@ -160,16 +160,17 @@ fn ticks(numbers: &mut Numbers, differences: &[i64]) -> Vec<u64> {
 }
 
 /// In some cases makes two lists differ in a word, in length or by far in their ticks, or
-/// be refused.
+/// be refused for a buffer, a tick, the jitter, or several of them.
 fn spoil(numbers: &mut Numbers, case: &mut Case) {
-    let great = numbers.pick(&GREAT_JITTERS);
+    if numbers.one_in(12) {
+        case.jitter = numbers.pick(&GREAT_JITTERS);
+    }
     let [first, second] = &mut case.lists;
     let (list, other) = match numbers.within(0, 1) {
         0 => (first, second),
         _ => (second, first),
     };
-    let what = numbers.within(0, 27);
-    match what {
+    match numbers.within(0, 27) {
         0 | 1 => change_word(numbers, list),
         2 => exchange_words(numbers, list),
         3 | 4 => drop_last(numbers, list),
@@ -186,9 +187,6 @@ fn spoil(numbers: &mut Numbers, case: &mut Case) {
         }
         12 => list.ticks.iter_mut().for_each(|tick| *tick |= 1 << 32),
         _ => {}
-    }
-    if [0, 3, 9, 13].contains(&what) {
-        case.jitter = great;
     }
 }
 
