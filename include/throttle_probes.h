@@ -51,8 +51,7 @@ static inline uint32_t throttle_probes_row(uint16_t bank, uint16_t row)
  *       either list, one without a partner too
  *
  * It reads no record more than once. No pointer is null, also where its length
- * is 0, and each is aligned for its cells. out does not overlap a list; the lists
- * are only read, and may be the same memory.
+ * is 0, and each is aligned for its cells. out does not overlap a list.
  */
 THROTTLE_CHECKED
 uint32_t throttle_fit_probes(const uint64_t *first_ticks, size_t first_ticks_len,
