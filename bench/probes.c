@@ -22,7 +22,8 @@ PLAIN_DECLARE(native);
 enum { LIBRARY, O2, O3, NATIVE, BUILDS };
 enum { MOST_ROUNDS = 1000, SHORT_LISTS = 200000, LONGEST_SHORT = 4 };
 
-static const char *const names[BUILDS] = {"library", "gcc -O2", "gcc -O3", "-O3 -march=native"};
+static const char *const names[BUILDS] = {"library", "gcc -O2", "gcc -O3", "-march=native"};
+static const char *const ratios[BUILDS] = {"", "/ -O2", "/ -O3", "/ native"};
 
 typedef uint32_t fit_call(const uint64_t *, size_t, const uint32_t *, size_t, uint64_t,
                           const uint64_t *, size_t, const uint32_t *, size_t, uint64_t, uint64_t,
@@ -170,7 +171,7 @@ static void print_pair(size_t build, size_t other)
         least[1] = spent[other][r] < least[1] ? spent[other][r] : least[1];
     }
     qsort(values, rounds, sizeof *values, by_size);
-    printf(" %9.3f %7.3f", build == other ? least[0] : least[0] / least[1], values[rounds / 2]);
+    printf(" %7.2f %6.2f", build == other ? least[0] : least[0] / least[1], values[rounds / 2]);
 }
 
 /* Measures the lists as they are, and prints a line; all builds must answer this. */
@@ -188,7 +189,7 @@ static void measure(const char *name, uint64_t code, uint64_t fits, uint64_t off
             spent[b][r] = (nanoseconds() - begin) / longer;
             must_be(&a, &wanted);
         }
-    printf("%-30s %9" PRIu64, name, (uint64_t)longer);
+    printf("%-27s %9" PRIu64, name, (uint64_t)longer);
     for (size_t b = 0; b < BUILDS; b++)
         print_pair(b, b);
     for (size_t b = 1; b < BUILDS; b++)
@@ -199,14 +200,14 @@ static void measure(const char *name, uint64_t code, uint64_t fits, uint64_t off
 
 static void print_heading(void)
 {
-    printf("%-40s", "");
+    printf("%-37s", "");
     for (size_t b = 0; b < BUILDS; b++)
-        printf(" %17s", names[b]);
+        printf(" %14s", names[b]);
     for (size_t b = 1; b < BUILDS; b++)
-        printf(" %17s", b == NATIVE ? "/ native" : b == O3 ? "/ -O3" : "/ -O2");
-    printf("\n%-30s %9s", "lists", "pairs");
+        printf(" %14s", ratios[b]);
+    printf("\n%-27s %9s", "lists", "pairs");
     for (size_t b = 0; b < 2 * BUILDS - 1; b++)
-        printf(" %9s %7s", "best", "median");
+        printf(" %7s %6s", "best", "median");
     printf("\n");
 }
 

@@ -12,9 +12,9 @@ PLAIN_DECLARE(BASE_PREFIX)
 {
     if (first_count > first_ticks_len || first_count > first_rows_len ||
         second_count > second_ticks_len || second_count > second_rows_len)
-        return 6;
+        return THROTTLE_SHORT_BUFFER;
     if (jitter > THROTTLE_PROBES_MOST_JITTER)
-        return 18;
+        return THROTTLE_BAD_PROBES;
     uint64_t pairs = first_count < second_count ? first_count : second_count;
     uint64_t ticks = 0;
     uint32_t unlike = 0;
@@ -31,7 +31,7 @@ PLAIN_DECLARE(BASE_PREFIX)
     for (uint64_t i = pairs; i < second_count; i++)
         ticks |= second_ticks[i];
     if (ticks >> 62 != 0)
-        return 18;
+        return THROTTLE_BAD_PROBES;
     out[0] = out[1] = 0;
     if (first_count != second_count || unlike != 0)
         return 0;
