@@ -140,7 +140,7 @@ static void *room(size_t cells, size_t size)
     return p;
 }
 
-/* Random rows, ticks that rise; the second ticks are 87 to 107 more than the first, at first 87 and 107. */
+/* Random rows, ticks that rise; the second ticks are 87 to 107 more, 107 in the first pair. */
 static void fill(size_t pairs)
 {
     uint64_t tick = 0;
@@ -149,7 +149,7 @@ static void fill(size_t pairs)
     for (size_t i = 0; i < pairs; i++) {
         tick += 1 + next_random() % 400;
         first.ticks[i] = tick;
-        second.ticks[i] = tick + 87 + (i < 2 ? 20 * i : next_random() % 21);
+        second.ticks[i] = tick + 87 + (i < 2 ? 20 - 20 * i : next_random() % 21);
         first.rows[i] = second.rows[i] = (uint32_t)next_random() & 0xfffff;
     }
     jitter = 10;
@@ -211,16 +211,17 @@ static void print_heading(void)
     printf("\n");
 }
 
-/* Lists that fit, and those that do not for each reason; the first alone is also measured at other lengths. */
+/*
+ * Lists that fit, of several lengths, the shortest of which stays in a cache; then
+ * lists that do not fit, for each reason, and one that is refused.
+ */
 static void measure_all(size_t pairs)
 {
-    static const size_t tenths[] = {1, 2, 5};
-    for (size_t i = 0; i < 3; i++) {
-        first.count = second.count = pairs / 10 * tenths[i];
+    static const size_t parts[] = {1000, 10, 5, 2, 1};
+    for (size_t i = 0; i < sizeof parts / sizeof *parts; i++) {
+        first.count = second.count = pairs / parts[i];
         measure("they fit", 0, 1, 97);
     }
-    first.count = second.count = pairs;
-    measure("they fit", 0, 1, 97);
     second.rows[0] ^= 1;
     measure("the first rows differ", 0, 0, 0);
     second.rows[0] ^= 1;
