@@ -99,7 +99,7 @@ static void fill_short(struct list *l)
     static const uint64_t ticks[] = {0, 1, 999, 1000, 1001, 2000, 2001, (UINT64_C(1) << 62) - 1};
     l->length = next_random() % (LONGEST_SHORT + 1);
     l->count = next_random() % 16 != 0 ? l->length : next_random() % (LONGEST_SHORT + 2);
-    for (size_t i = 0; i < l->length; i++) {
+    for (size_t i = 0; i < LONGEST_SHORT; i++) {
         l->ticks[i] = ticks[next_random() % 8];
         if (next_random() % 64 == 0)
             l->ticks[i] = (UINT64_C(1) << 62) << next_random() % 2;
@@ -118,8 +118,10 @@ static void compare_short(void)
     for (size_t i = 0; i < SHORT_LISTS; i++) {
         fill_short(&first);
         fill_short(&second);
-        if (next_random() % 4 != 0)
-            second.length = second.count = first.length = first.count;
+        if (next_random() % 4 != 0) {
+            second.length = first.length;
+            second.count = first.count;
+        }
         jitter = jitters[next_random() % 7];
         struct answer wanted = ask(LIBRARY);
         seen[wanted.code == 0 ? wanted.out[0] & 1 : wanted.code == 6 ? 2 : 3]++;
