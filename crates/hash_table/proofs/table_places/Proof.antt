@@ -1,8 +1,8 @@
--- `hash::table_places` meets its contract: the lanes of the two words together are the places.
-use Rattle.hash.proofs.Table.{table-places}
+-- `hash_table::table_places` meets its contract: the lanes of the two words together are the places.
+use Rattle.hash_table.proofs.Table.{table-places}
 use borrow.Author.Needs.{needs}
-use Rattle.hash.proofs.table_places.Statement.{statement}
-use Rattle.hash.proofs.table_places.Tie as tie
+use Rattle.hash_table.proofs.table_places.Statement.{statement}
+use Rattle.hash_table.proofs.table_places.Tie as tie
 
 high-requires : tie.Need-high-requires
 high-requires c κs = search needs

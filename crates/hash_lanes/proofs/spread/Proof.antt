@@ -1,8 +1,8 @@
--- `hash::spread` meets its contract.
+-- `hash_lanes::spread` meets its contract.
 use borrow.Author.Needs.{needs}
-use Rattle.hash.proofs.Masks.{spread-is}
-use Rattle.hash.proofs.spread.Statement.{statement}
-use Rattle.hash.proofs.spread.Tie as tie
+use Rattle.hash_lanes.proofs.Masks.{spread-is}
+use Rattle.hash_lanes.proofs.spread.Statement.{statement}
+use Rattle.hash_lanes.proofs.spread.Tie as tie
 
 mul-result : tie.Need-mul-result
 mul-result c = search needs

@@ -11,7 +11,7 @@ use Rattle.hash_words.specs.Lanes.{lane}
 use Rattle.hash_words.specs.Words.{highWords, lowWords}
 use Rattle.hash_words.proofs.Lanes.{lane-xor}
 use Rattle.hash_words.proofs.Words.{hash-by-words}
-use Rattle.hash.proofs.Laws.{four-places}
+use Rattle.hash_words.proofs.Places.{four-places}
 
 -- one lane of the two words together
 one-lane : (f row : ℕ) → f < 4 → lane (bitXor (highWords (row / 256)) (lowWords (row % 256))) (16 * f) ≡ hash house f row

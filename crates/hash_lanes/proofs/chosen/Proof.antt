@@ -1,10 +1,10 @@
--- `hash::chosen` meets its contract.
+-- `hash_lanes::chosen` meets its contract.
 use mathlib.Core.Path.{ap₂}
 use lib.Bits.{bitAnd}
-use Rattle.hash.specs.Lanes.{chosen}
+use Rattle.hash_lanes.specs.Lanes.{chosen}
 use borrow.Author.Needs.{needs}
-use Rattle.hash.proofs.chosen.Statement.{statement}
-use Rattle.hash.proofs.chosen.Tie as tie
+use Rattle.hash_lanes.proofs.chosen.Statement.{statement}
+use Rattle.hash_lanes.proofs.chosen.Tie as tie
 
 four-requires : tie.Need-four-requires
 four-requires c κs = search needs

@@ -1,9 +1,9 @@
--- `hash::mask` meets its contract: the four bits, spread, fill their lanes.
+-- `hash_lanes::mask` meets its contract: the four bits, spread, fill their lanes.
 use native.Mathlib.Omega.{arith}
-use Rattle.hash.proofs.Masks.{filled}
+use Rattle.hash_lanes.proofs.Masks.{filled}
 use borrow.Author.Needs.{needs}
-use Rattle.hash.proofs.mask.Statement.{statement}
-use Rattle.hash.proofs.mask.Tie as tie
+use Rattle.hash_lanes.proofs.mask.Statement.{statement}
+use Rattle.hash_lanes.proofs.mask.Tie as tie
 
 spread-requires : tie.Need-spread-requires
 spread-requires c κs = search needs

@@ -1,8 +1,8 @@
--- `hash::seed_places` meets its contract: the four hashes are the definition's places.
-use Rattle.hash.proofs.Laws.{four-places}
+-- `hash_seeds::seed_places` meets its contract: the four hashes are the definition's places.
+use Rattle.hash_words.proofs.Places.{four-places}
 use borrow.Author.Needs.{needs}
-use Rattle.hash.proofs.seed_places.Statement.{statement}
-use Rattle.hash.proofs.seed_places.Tie as tie
+use Rattle.hash_seeds.proofs.seed_places.Statement.{statement}
+use Rattle.hash_seeds.proofs.seed_places.Tie as tie
 
 hash-requires : tie.Need-hash-requires
 hash-requires c κs = search needs

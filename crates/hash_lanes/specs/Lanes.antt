@@ -1,4 +1,4 @@
--- Words of four lanes, 16 bits each: what the steps of the hash compute. That their result is the rules' hash is a law (`hash-is`).
+-- Words of four lanes, 16 bits each: what the steps of the hash compute. That their result is the rules' hash is a law (`hash-is` of the crate `hash_seeds`).
 use mathlib.Core.List.{List}
 use mathlib.Core.Bool.{cond}
 use Prim.Native.Nat.{ℕ, _+_}

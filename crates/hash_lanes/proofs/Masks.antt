@@ -8,7 +8,7 @@ use lib.Bits.{bitAnd}
 use Rattle.rules.specs.Cells.{every}
 use Rattle.rules.specs.Hash.{bitSet}
 use Rattle.rules.proofs.Tests.{every-at}
-use Rattle.hash.specs.Lanes.{spread}
+use Rattle.hash_lanes.specs.Lanes.{spread}
 
 -- the product spreads these bits; the sixteen cases are computed
 right : ℕ → Bool

@@ -1,11 +1,11 @@
--- `hash::hash` meets its contract: the four words of chosen seeds have all sixteen bits.
+-- `hash_seeds::hash` meets its contract: the four words of chosen seeds have all sixteen bits.
 use mathlib.Core.Path.{_≡_}
 use native.Mathlib.Omega.{arith}
 use lib.ListN.{length}
-use Rattle.hash.proofs.Laws.{seeds-64, hash-is}
+use Rattle.hash_seeds.proofs.Laws.{seeds-64, hash-is}
 use borrow.Author.Needs.{needs}
-use Rattle.hash.proofs.hash.Statement.{statement}
-use Rattle.hash.proofs.hash.Tie as tie
+use Rattle.hash_seeds.proofs.hash.Statement.{statement}
+use Rattle.hash_seeds.proofs.hash.Tie as tie
 
 -- there are 64 seeds
 long : (c : tie.After-shared-slice-known) → length (c .before .args .seeds .now) ≡ 64

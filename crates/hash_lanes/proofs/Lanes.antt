@@ -9,7 +9,7 @@ use lib.Bits.{bitAnd, bitXor, and-mask, and-zero-r, and-shr, and-mod}
 use Rattle.hash_words.specs.Lanes.{joined, lane}
 use Rattle.hash_words.proofs.Xor.{xor-assoc, xor-swap}
 use Rattle.hash_words.proofs.Lanes.{lane-xor, lanes}
-use Rattle.hash.specs.Lanes.{folded}
+use Rattle.hash_lanes.specs.Lanes.{folded}
 
 -- and works on each lane apart
 lane-and : (a b k : ℕ) → lane (bitAnd a b) k ≡ bitAnd (lane a k) (lane b k)
