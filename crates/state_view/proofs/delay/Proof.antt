@@ -2,10 +2,10 @@
 use lib.Dec.{ltb}
 use Rattle.history.proofs.Found.{found-fits}
 use Rattle.decision.specs.Numbers.{delayEnd}
-use Rattle.state.proofs.Parts.{searchable, delay-skipped, delay-found}
+use Rattle.state_view.proofs.Parts.{searchable, delay-skipped, delay-found}
 use borrow.Author.Needs.{needs}
-use Rattle.state.proofs.look.delay.Statement.{statement}
-use Rattle.state.proofs.look.delay.Tie as tie
+use Rattle.state_view.proofs.delay.Statement.{statement}
+use Rattle.state_view.proofs.delay.Tie as tie
 
 both-requires : tie.Need-both-requires
 both-requires c κs = search needs

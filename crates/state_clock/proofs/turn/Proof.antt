@@ -5,10 +5,10 @@ use native.Mathlib.Omega.{arith}
 use native.Mathlib.Nat.{div-mul-le-self}
 use Rattle.rules.specs.State.{threadsUsed}
 use Rattle.rules.specs.Clock.{epoch, turnedThreads}
-use Rattle.state.proofs.Parts.{epoch-small}
+use Rattle.state_clock.proofs.Epochs.{epoch-small}
 use borrow.Author.Needs.{needs}
-use Rattle.state.proofs.turn.Statement.{statement}
-use Rattle.state.proofs.turn.Tie as tie
+use Rattle.state_clock.proofs.turn.Statement.{statement}
+use Rattle.state_clock.proofs.turn.Tie as tie
 
 -- the epoch before is small
 small : (c : tie.After-epoch-from) → let start = c .before .before .before .before in epoch (start .args .s) (start .args .h .last) < 2 ^ 63

@@ -1,8 +1,8 @@
 -- `epoch_from` divides only where the tick lies past the epoch.
-use Rattle.state.proofs.Parts.{same-epoch}
+use Rattle.state_clock.proofs.Epochs.{same-epoch}
 use borrow.Author.Needs.{needs}
-use Rattle.state.proofs.epoch_from.Statement.{statement}
-use Rattle.state.proofs.epoch_from.Tie as tie
+use Rattle.state_clock.proofs.epoch_from.Statement.{statement}
+use Rattle.state_clock.proofs.epoch_from.Tie as tie
 
 mul-if1 : tie.Need-mul-if1
 mul-if1 c = search needs

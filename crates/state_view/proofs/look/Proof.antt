@@ -3,10 +3,10 @@ use Prim.Native.Nat.{_+_, _*_, _/_, _%_}
 use mathlib.Core.Path.{_≡_, refl, ap}
 use native.Mathlib.Omega.{arith}
 use native.Mathlib.Nat.{div-le-self}
-use Rattle.state.proofs.Parts.{end-small, view-parts}
+use Rattle.state_view.proofs.Parts.{end-small, view-parts}
 use borrow.Author.Needs.{needs}
-use Rattle.state.proofs.look.look.Statement.{statement}
-use Rattle.state.proofs.look.look.Tie as tie
+use Rattle.state_view.proofs.look.Statement.{statement}
+use Rattle.state_view.proofs.look.Tie as tie
 
 -- the start, from where the delay is known
 abbrev from : tie.After-delay → tie.Start

@@ -1,8 +1,8 @@
-// What the decision on a request looks at, read from the state.
-use crate::row_word;
+// What the decision on a request looks at, read from a state that passed the tests.
 use decision::View;
 use head::Head;
 use rules::Setting;
+use state::row_word;
 ghost use mathlib.Core.Path.{_≡_};
 ghost use mathlib.Core.Bool.{_&&_, cond};
 ghost use Prim.Native.Nat.{_≤_, _<_, _^_};

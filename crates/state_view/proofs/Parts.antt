@@ -1,10 +1,10 @@
--- A view and a turn, put together from what the leaves give.
+-- A view, put together from what the leaves give.
 use Prim.Native.Nat.{ℕ, _+_, _-_, _*_, _/_, _^_, _≤_, _<_}
 use mathlib.Core.Path.{_≡_, sym, ap, _∙_}
 use mathlib.Core.List.{List}
 use mathlib.Core.Bool.{Bool, true, false, _&&_, cond}
 use native.Mathlib.Omega.{arith}
-use native.Mathlib.Nat.{div-lt-iff-lt-mul, le-div-iff-mul-le, div-mul-le-self}
+use native.Mathlib.Nat.{div-mul-le-self}
 use lib.Dec.{ltb, eqb}
 use lib.ListN.{getD}
 use Rattle.head.specs.declared.Head.{Head}
@@ -24,16 +24,6 @@ use Rattle.decision.specs.declared.View.{View}
 use Rattle.decision.specs.Numbers.{delayEnd, viewOf}
 
 -- ---- numbers
-
--- the number of an epoch of two ticks or more
-pub epoch-small : (x d : ℕ) → 2 ≤ d → x < 2 ^ 64 → x / d < 2 ^ 63
-epoch-small x d h k = div-lt-iff-lt-mul {k = d} {x = x} {y = 2 ^ 63} (omega arith) .1 (omega arith)
-
--- the epoch of a tick by the start of an earlier one
-pub same-epoch : (tick e d : ℕ) → 1 ≤ d → e * d ≤ tick → tick - e * d < d → e ≡ tick / d
-same-epoch tick e d h lo hi =
-    let k : tick < (e + 1) * d = omega arith in
-    omega (arith, le-div-iff-mul-le {k = d} {x = e} {y = tick} h .1 lo, div-lt-iff-lt-mul {k = d} {x = tick} {y = e + 1} h .1 k)
 
 -- the end of the epoch of a tick below 2^62
 pub end-small : (t d : ℕ) → d ≤ 2 ^ 30 → t < 2 ^ 62 → (t / d + 1) * d ≤ 2 ^ 62 + 2 ^ 30

@@ -5,8 +5,8 @@ use Rattle.rules.specs.State.{freshHead}
 use Rattle.rules.proofs.Accept.{cells-small}
 use mathlib.Core.Path.{refl}
 use borrow.Author.Needs.{needs}
-use Rattle.state.proofs.fresh.Statement.{statement}
-use Rattle.state.proofs.fresh.Tie as tie
+use Rattle.state_setup.proofs.fresh.Statement.{statement}
+use Rattle.state_setup.proofs.fresh.Tie as tie
 
 -- the start, from where H is known; and that, from before the thread counters are cleared
 abbrev begun : tie.After-history-length → tie.Start
