@@ -18,12 +18,6 @@ ghost use Rattle.rules.specs.Calls.{oneLess};
 ghost use Rattle.state.specs.Ready.{Bounds, Ready};
 ghost use Rattle.filterless.specs.DecisionBy.{decisionBy};
 
-// The estimates of a row in the active and in the other filter.
-pub struct Estimates {
-    pub active: u64,
-    pub other: u64,
-}
-
 // The decision on a request for a row with these estimates in the active and in the other filter. e is the epoch of the last tick, stored the bank's
 // cell of the head.
 pub fn decide_by(
