@@ -11,7 +11,7 @@ ghost use mathlib.Core.Path.{_≡_};
 ghost use mathlib.Core.List.{List};
 ghost use Rattle.rules.specs.Policy.{narrow};
 ghost use Rattle.log_format.specs.Verdict.{verdict};
-ghost use Rattle.judge.specs.Follow.{reportOf};
+ghost use Rattle.judged.specs.Follow.{reportOf};
 ghost use Rattle.checker_reading.specs.Blocks.{readSoFar, Carried, Ready, JudgedBlock};
 ghost use Rattle.report.specs.Text.{textOf};
 ghost use Rattle.check_log.specs.Fills.{judgeFilled};

@@ -15,9 +15,9 @@ use Rattle.log_format.proofs.Steps.{blocks-step}
 use Rattle.tally.specs.declared.Progress.{Progress}
 use Rattle.tally.specs.declared.Report.{Report}
 use Rattle.tally.specs.declared.Report.the-variants.{Refused, Agrees}
-use Rattle.judge.specs.Follow.{progressOf, reportOf, Follows}
+use Rattle.judged.specs.Follow.{progressOf, reportOf, Follows}
 use Rattle.checker_reading.specs.Blocks.{Ready, JudgedBlock}
-use Rattle.checker_records.proofs.Steps.{not-both}
+use Rattle.judged.proofs.Steps.{not-both}
 use Rattle.rules.specs.Policy.{limits01, narrow}
 
 -- ---- before the first block

@@ -14,7 +14,7 @@ ghost use Rattle.rules.specs.State.{freshHead};
 ghost use Rattle.rules.specs.Policy.{limits01, narrow};
 ghost use Rattle.log_format.specs.Bytes.{blockAt};
 ghost use Rattle.log_format.specs.Verdict.{ended, unread, verdict};
-ghost use Rattle.judge.specs.Follow.{progressOf, reportOf};
+ghost use Rattle.judged.specs.Follow.{progressOf, reportOf};
 ghost use Rattle.checker_reading.specs.Blocks.{readSoFar, Carried, Ready};
 
 // Before the first block. The buffers may hold anything, since block 0 sets the model up in them; 32,768 counters, 4,096 ticks and rows and

@@ -21,7 +21,7 @@ use Rattle.log_format.proofs.Replies.{call-request, call-done, record-refused, 
 use Rattle.tally.specs.declared.Progress.{Progress}
 use Rattle.tally.specs.declared.Report.the-variants.{Refused, Differs}
 use Rattle.tally.specs.Settled.{refusedBy, countedOne, settled}
-use Rattle.judge.specs.Follow.{running, Follows, Judged}
+use Rattle.judged.specs.Follow.{running, Follows, Judged}
 
 module _ (s : Setting) (seeds : List ℕ) (p : Progress) (st : State) (e : Entry) where
   -- a record counted and compared follows the step of the reply with this number and wait tick

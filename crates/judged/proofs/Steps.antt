@@ -5,7 +5,7 @@ use Prim.Native.Nat.{ℕ}
 use native.Mathlib.Omega.{arith}
 use Rattle.log_format.specs.Verdict.{Running, Step, over, on, andThen}
 use Rattle.tally.specs.declared.Report.{Report}
-use Rattle.judge.specs.Follow.{Follows}
+use Rattle.judged.specs.Follow.{Follows}
 
 pub not-both : (b : Bool) → b ≡ true → b ≡ false → ⊥
 not-both b p q = let z : _≡_ {A = ℕ} 0 1 = cc in omega arith
