@@ -34,7 +34,7 @@ fn judge_filled(
     match filled {
         Filled::Whole => {}
         Filled::End => {
-            let report = checker::at_end(p, true);
+            let report = checker_end::at_end(p, true);
             return Next {
                 over: true,
                 report,
@@ -42,7 +42,7 @@ fn judge_filled(
             };
         }
         Filled::Cut => {
-            let report = checker::at_end(p, false);
+            let report = checker_end::at_end(p, false);
             return Next {
                 over: true,
                 report,

@@ -1,7 +1,7 @@
 -- `at_end` tells an empty log, one that agrees and a cut one apart.
-use Rattle.checker.proofs.Logs.{end-cut, end-empty, end-agrees}
-use Rattle.checker.proofs.at_end.Statement.{statement}
-use Rattle.checker.proofs.at_end.Tie as tie
+use Rattle.checker_end.proofs.Ends.{end-cut, end-empty, end-agrees}
+use Rattle.checker_end.proofs.at_end.Statement.{statement}
+use Rattle.checker_end.proofs.at_end.Tie as tie
 
 returns : tie.Need-returns
 returns c = end-empty (c .before .before .before .args .p) (c .before .before .before .args .whole) (c .before .before .if1 .taken) (c .if2 .taken)
