@@ -1,10 +1,10 @@
--- `plan_interval::greatest_delay`: by what `smaller` ensures.
+-- `plan_ends::greatest_delay`: by what `smaller` ensures.
 use native.Mathlib.Omega.{arith}
 use Rattle.plan_delays.specs.Answer.{greatestDelay}
-use Rattle.plan_interval.proofs.Served.{places-small}
+use Rattle.plan_ends.proofs.Served.{places-small}
 use borrow.Author.Needs.{needs}
-use Rattle.plan_interval.proofs.greatest_delay.Statement.{statement}
-use Rattle.plan_interval.proofs.greatest_delay.Tie as tie
+use Rattle.plan_ends.proofs.greatest_delay.Statement.{statement}
+use Rattle.plan_ends.proofs.greatest_delay.Tie as tie
 
 mul-smaller : tie.Need-mul-smaller
 mul-smaller c =

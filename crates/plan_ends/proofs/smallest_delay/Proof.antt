@@ -1,12 +1,12 @@
--- `plan_interval::smallest_delay`: the quotient is not above the window.
+-- `plan_ends::smallest_delay`: the quotient is not above the window.
 use Prim.Native.Nat.{_-_, _*_}
 use mathlib.Core.Path.{refl}
 use native.Mathlib.Omega.{arith}
 use native.Mathlib.Nat.{div-le-self}
 use Rattle.plan_delays.specs.Answer.{smallestDelay}
 use borrow.Author.Needs.{needs}
-use Rattle.plan_interval.proofs.smallest_delay.Statement.{statement}
-use Rattle.plan_interval.proofs.smallest_delay.Tie as tie
+use Rattle.plan_ends.proofs.smallest_delay.Statement.{statement}
+use Rattle.plan_ends.proofs.smallest_delay.Tie as tie
 
 mul-free : tie.Need-mul-free
 mul-free c = search needs

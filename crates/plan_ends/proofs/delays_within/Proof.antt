@@ -1,4 +1,4 @@
--- `plan_interval::delays_within`: the tests are those of the definition, in its order.
+-- `plan_ends::delays_within`: the tests are those of the definition, in its order.
 use mathlib.Core.Path.{_≡_, ap, _∙_}
 use Prim.Native.Nat.{ℕ, _*_, _/_, _≤_, min}
 use native.Mathlib.Omega.{arith}
@@ -8,10 +8,10 @@ use Rattle.rules.specs.declared.Limits.{Limits}
 use Rattle.rules.specs.declared.Profile.{Profile}
 use Rattle.rules.specs.Setting.{profileOf}
 use Rattle.plan_delays.specs.Answer.{ownGreatest, delaysWithin}
-use Rattle.plan_interval.proofs.Served.{own-small}
+use Rattle.plan_ends.proofs.Served.{own-small}
 use borrow.Author.Needs.{needs}
-use Rattle.plan_interval.proofs.delays_within.Statement.{statement}
-use Rattle.plan_interval.proofs.delays_within.Tie as tie
+use Rattle.plan_ends.proofs.delays_within.Statement.{statement}
+use Rattle.plan_ends.proofs.delays_within.Tie as tie
 
 -- where the limits of the profile are known, and the arguments
 abbrev named : tie.After-smaller → tie.After-profile
