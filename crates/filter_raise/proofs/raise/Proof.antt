@@ -1,9 +1,9 @@
--- `filter_count::raise` meets its contract. The sum fits as it does for counters of every width.
+-- `filter_raise::raise` meets its contract. The sum fits as it does for counters of every width.
 use Prim.Native.Nat.{_^_}
 use Rattle.rules.proofs.Filter.{raised-below, raised-full, sum-lt}
 use borrow.Author.Needs.{needs}
-use Rattle.filter_count.proofs.raise.Statement.{statement}
-use Rattle.filter_count.proofs.raise.Tie as tie
+use Rattle.filter_raise.proofs.raise.Statement.{statement}
+use Rattle.filter_raise.proofs.raise.Tie as tie
 
 add-result : tie.Need-add-result
 add-result c = let k = sum-lt (c .before .args .n) (c .before .args .x) (2 ^ 16) (search needs) (c .if1 .taken) in search needs

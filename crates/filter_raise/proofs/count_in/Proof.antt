@@ -3,10 +3,10 @@ use mathlib.Core.Path.{_≡_, ap₂, _∙_}
 use Prim.Native.Nat.{min}
 use native.Mathlib.Omega.{arith}
 use lib.ListN.{length, length-set}
-use Rattle.filter_count.proofs.Counting.{row-raised, row-estimate}
+use Rattle.filter_raise.proofs.Raising.{row-raised, row-estimate}
 use borrow.Author.Needs.{needs}
-use Rattle.filter_count.proofs.count_in.Statement.{statement}
-use Rattle.filter_count.proofs.count_in.Tie as tie
+use Rattle.filter_raise.proofs.count_in.Statement.{statement}
+use Rattle.filter_raise.proofs.count_in.Tie as tie
 
 -- the row has four places
 four : (c : tie.Start) → length (c .args .t4) ≡ 4
