@@ -37,6 +37,6 @@ pub fn activate(
 {
     let places = setting::history_length(s);
     history::record(ticks, rows, h.next as usize, h.last, row_word(bank, row));
-    thread_counters::activate(threads, s, bank, thread, black);
+    thread_activate::activate(threads, s, bank, thread, black);
     h.activated(places as u64, bank as usize)
 }

@@ -37,7 +37,7 @@ pub fn turn(s: Setting, h: Head, threads: &mut [u32], tick: u64) -> Turned
     let length = s.w / 2;
     let from = h.last / length;
     let to = epoch_from(tick, from, length);
-    thread_counters::turn(threads, (s.banks * s.threads * 3) as usize, from, to);
+    thread_turn::turn(threads, (s.banks * s.threads * 3) as usize, from, to);
     Turned {
         head: h.moved(tick),
         from,

@@ -13,7 +13,7 @@ use Rattle.rules.specs.Clock.{turnedThreads}
 use Rattle.rules.proofs.Tests.{same-test, lt-eq-facts, lt-eq-test}
 use Rattle.rules.proofs.Clearing.{clear-same, clear-clear, Cleared, cleared-none, cleared-more}
 use Rattle.rules.proofs.Clock.{turn-none, turn-one, turn-both, turned-index}
-use Rattle.thread_counters.specs.Kinds.{kindBelow}
+use Rattle.thread_turn.specs.Kinds.{kindBelow}
 
 -- ---- the test
 

@@ -1,11 +1,12 @@
--- `thread_counters::activate`: the three cells are the thread's in that bank, and all are read before a raised one is stored.
+-- `thread_activate::activate`: the three cells are the thread's in that bank, and all are read before a raised one is stored.
 use native.Mathlib.Omega.{arith}
 use lib.ListN.{length-set}
 use borrow.Author.Tests.{not-true, not-false}
-use Rattle.thread_counters.proofs.Index.{held-at, activated-plain, activated-black}
+use Rattle.thread_counters.proofs.Index.{held-at}
+use Rattle.thread_activate.proofs.Activated.{activated-plain, activated-black}
 use borrow.Author.Needs.{needs}
-use Rattle.thread_counters.proofs.activate.Statement.{statement}
-use Rattle.thread_counters.proofs.activate.Tie as tie
+use Rattle.thread_activate.proofs.activate.Statement.{statement}
+use Rattle.thread_activate.proofs.activate.Tie as tie
 
 cell-requires : tie.Need-cell-requires
 cell-requires c κs = search needs

@@ -1,9 +1,9 @@
--- `thread_counters::raise` meets its contract. The sum fits as it does for counters of every width.
+-- `thread_activate::raise` meets its contract. The sum fits as it does for counters of every width.
 use Prim.Native.Nat.{_^_}
 use Rattle.rules.proofs.Filter.{raised-below, raised-full, sum-lt}
 use borrow.Author.Needs.{needs}
-use Rattle.thread_counters.proofs.raise.Statement.{statement}
-use Rattle.thread_counters.proofs.raise.Tie as tie
+use Rattle.thread_activate.proofs.raise.Statement.{statement}
+use Rattle.thread_activate.proofs.raise.Tie as tie
 
 add-result : tie.Need-add-result
 add-result c = let k = sum-lt (c .before .args .limit) (c .before .args .c) (2 ^ 32) (search needs) (c .if1 .taken) in search needs

@@ -1,12 +1,12 @@
--- `thread_counters::clear_kind`. The loop's invariant: the cells of the kind in the groups passed are 0 and the others are as they were.
+-- `thread_turn::clear_kind`. The loop's invariant: the cells of the kind in the groups passed are 0 and the others are as they were.
 use Prim.Native.Nat.{_-_}
 use native.Mathlib.Omega.{arith}
 use Rattle.rules.proofs.Clearing.{Cleared, cleared-all}
-use Rattle.thread_counters.specs.Kinds.{kindBelow}
-use Rattle.thread_counters.proofs.Turns.{kind-none, kind-more}
+use Rattle.thread_turn.specs.Kinds.{kindBelow}
+use Rattle.thread_turn.proofs.Turns.{kind-none, kind-more}
 use borrow.Author.Needs.{needs}
-use Rattle.thread_counters.proofs.clear_kind.Statement.{statement}
-use Rattle.thread_counters.proofs.clear_kind.Tie as tie
+use Rattle.thread_turn.proofs.clear_kind.Statement.{statement}
+use Rattle.thread_turn.proofs.clear_kind.Tie as tie
 
 abbrev Inv-loop : tie.InvT-loop
 Inv-loop threads₀ kind groups i₀ threads i = Cleared (kindBelow kind) groups threads₀ i threads
