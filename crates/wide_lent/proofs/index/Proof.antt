@@ -1,9 +1,9 @@
--- `throttle_wide_index` turns the filters as the reading says.
+-- `index` turns the filters as the reading says.
 use mathlib.Core.Path.{refl}
 use Rattle.filterless.proofs.Requests.{wide-widest}
 use borrow.Author.Needs.{needs}
-use Rattle.throttle.proofs.throttle_wide_index.Statement.{statement}
-use Rattle.throttle.proofs.throttle_wide_index.Tie as tie
+use Rattle.wide_lent.proofs.index.Statement.{statement}
+use Rattle.wide_lent.proofs.index.Tie as tie
 
 wide-limits-requires : tie.Need-wide-limits-requires
 wide-limits-requires c κs = search needs
@@ -36,8 +36,8 @@ returns c =
     let start = (limits .before .before .before .before .before .before) in
     rw (filters .turn .ensures) (rw (limits .wide-limits .ensures) at (rest .index .ensures .3) (start .args .counters .now) refl)
 
-pub throttle-wide-index-spec : {M : Type 1} → statement M
-throttle-wide-index-spec =
+pub index-spec : {M : Type 1} → statement M
+index-spec =
     tie.close
     (tie.spec
     wide-limits-requires

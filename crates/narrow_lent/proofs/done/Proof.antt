@@ -1,9 +1,9 @@
--- `throttle_done` turns the filters as the done says.
+-- `done` turns the filters as the done says.
 use mathlib.Core.Path.{refl}
 use Rattle.filterless.proofs.Requests.{narrow-widest}
 use borrow.Author.Needs.{needs}
-use Rattle.throttle.proofs.throttle_done.Statement.{statement}
-use Rattle.throttle.proofs.throttle_done.Tie as tie
+use Rattle.narrow_lent.proofs.done.Statement.{statement}
+use Rattle.narrow_lent.proofs.done.Tie as tie
 
 narrow-limits-requires : tie.Need-narrow-limits-requires
 narrow-limits-requires c κs = search needs
@@ -36,8 +36,8 @@ returns c =
     let start = (limits .before .before .before .before .before .before) in
     rw (filters .turn .ensures) (rw (limits .narrow-limits .ensures) at (rest .done .ensures .3) (start .args .counters .now) refl)
 
-pub throttle-done-spec : {M : Type 1} → statement M
-throttle-done-spec =
+pub done-spec : {M : Type 1} → statement M
+done-spec =
     tie.close
     (tie.spec
     narrow-limits-requires

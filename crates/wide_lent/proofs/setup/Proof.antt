@@ -1,20 +1,18 @@
--- `throttle_wide_done` turns the filters as the done says.
+-- `setup` clears the filters as what is left of set-up says.
 use mathlib.Core.Path.{refl}
 use Rattle.filterless.proofs.Requests.{wide-widest}
 use borrow.Author.Needs.{needs}
-use Rattle.throttle.proofs.throttle_wide_done.Statement.{statement}
-use Rattle.throttle.proofs.throttle_wide_done.Tie as tie
+use Rattle.wide_lent.proofs.setup.Statement.{statement}
+use Rattle.wide_lent.proofs.setup.Tie as tie
 
 wide-limits-requires : tie.Need-wide-limits-requires
 wide-limits-requires c κs = search needs
 
-done-requires : tie.Need-done-requires
-done-requires c κs = rw (c .before .before .before .before .wide-limits .ensures) wide-widest
+setup-requires : tie.Need-setup-requires
+setup-requires c κs = rw (c .before .before .before .before .wide-limits .ensures) wide-widest
 
-turn-requires : tie.Need-turn-requires
-turn-requires c κs =
-    let q = c .before .before .before .done .ensures in
-    (q .0, q .1, q .2)
+clear-requires : tie.Need-clear-requires
+clear-requires c κs = search needs
 
 same-length : tie.Need-same-length
 same-length c = search needs
@@ -31,18 +29,18 @@ same-length-4 c = search needs
 returns : tie.Need-returns
 returns c =
     let filters = (c .before .before) in
-    let rest = (filters .before .before .before .before) in
+    let rest = (filters .before .before .before .before .before .before .before .before) in
     let limits = (rest .before .before .before .before .before) in
     let start = (limits .before .before .before .before .before .before) in
-    rw (filters .turn .ensures) (rw (limits .wide-limits .ensures) at (rest .done .ensures .3) (start .args .counters .now) refl)
+    rw (filters .clear .ensures) (rw (limits .wide-limits .ensures) at (rest .setup .ensures .1) (start .args .counters .now) refl)
 
-pub throttle-wide-done-spec : {M : Type 1} → statement M
-throttle-wide-done-spec =
+pub setup-spec : {M : Type 1} → statement M
+setup-spec =
     tie.close
     (tie.spec
     wide-limits-requires
-    done-requires
-    turn-requires
+    setup-requires
+    clear-requires
     same-length
     same-length-2
     same-length-3

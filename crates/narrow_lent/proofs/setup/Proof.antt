@@ -1,9 +1,9 @@
--- `throttle_setup` clears the filters as what is left of set-up says.
+-- `setup` clears the filters as what is left of set-up says.
 use mathlib.Core.Path.{refl}
 use Rattle.filterless.proofs.Requests.{narrow-widest}
 use borrow.Author.Needs.{needs}
-use Rattle.throttle.proofs.throttle_setup.Statement.{statement}
-use Rattle.throttle.proofs.throttle_setup.Tie as tie
+use Rattle.narrow_lent.proofs.setup.Statement.{statement}
+use Rattle.narrow_lent.proofs.setup.Tie as tie
 
 narrow-limits-requires : tie.Need-narrow-limits-requires
 narrow-limits-requires c κs = search needs
@@ -34,8 +34,8 @@ returns c =
     let start = (limits .before .before .before .before .before .before) in
     rw (filters .clear .ensures) (rw (limits .narrow-limits .ensures) at (rest .setup .ensures .1) (start .args .counters .now) refl)
 
-pub throttle-setup-spec : {M : Type 1} → statement M
-throttle-setup-spec =
+pub setup-spec : {M : Type 1} → statement M
+setup-spec =
     tie.close
     (tie.spec
     narrow-limits-requires

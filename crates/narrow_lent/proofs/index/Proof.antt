@@ -1,9 +1,9 @@
--- `throttle_index` turns the filters as the reading says.
+-- `index` turns the filters as the reading says.
 use mathlib.Core.Path.{refl}
 use Rattle.filterless.proofs.Requests.{narrow-widest}
 use borrow.Author.Needs.{needs}
-use Rattle.throttle.proofs.throttle_index.Statement.{statement}
-use Rattle.throttle.proofs.throttle_index.Tie as tie
+use Rattle.narrow_lent.proofs.index.Statement.{statement}
+use Rattle.narrow_lent.proofs.index.Tie as tie
 
 narrow-limits-requires : tie.Need-narrow-limits-requires
 narrow-limits-requires c κs = search needs
@@ -36,8 +36,8 @@ returns c =
     let start = (limits .before .before .before .before .before .before) in
     rw (filters .turn .ensures) (rw (limits .narrow-limits .ensures) at (rest .index .ensures .3) (start .args .counters .now) refl)
 
-pub throttle-index-spec : {M : Type 1} → statement M
-throttle-index-spec =
+pub index-spec : {M : Type 1} → statement M
+index-spec =
     tie.close
     (tie.spec
     narrow-limits-requires
