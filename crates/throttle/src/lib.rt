@@ -13,8 +13,8 @@ ghost use Rattle.widths.specs.ChangeOver.{changedOver, changeOver};
 ghost use Rattle.interface.specs.Left.{left, found, leaves};
 
 // For callers in Rattle that own their memory: set-up, request and done without the test of the whole history, and the numbers of an answer.
-pub use answers::answer_number;
-pub use answers::answer_wait;
+pub use answer_numbers::answer_number;
+pub use answer_numbers::answer_wait;
 pub use sound::done;
 pub use sound::request;
 pub use sound::setup;
