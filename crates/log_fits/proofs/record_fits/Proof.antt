@@ -1,8 +1,8 @@
--- `encode::record_fits`: the tests of the definition, in its order.
+-- `log_fits::record_fits`: the tests of the definition, in its order.
 use Rattle.log_format.specs.Encode.{recordFits}
 use borrow.Author.Needs.{needs}
-use Rattle.log.proofs.encode.record_fits.Statement.{statement}
-use Rattle.log.proofs.encode.record_fits.Tie as tie
+use Rattle.log_fits.proofs.record_fits.Statement.{statement}
+use Rattle.log_fits.proofs.record_fits.Tie as tie
 
 and-requires : tie.Need-and-requires
 and-requires c κs = search needs

@@ -1,4 +1,4 @@
--- `encode::setting_fits`. The loop's invariant: the tests of the numbers passed hold together.
+-- `log_fits::setting_fits`. The loop's invariant: the tests of the numbers passed hold together.
 use Prim.Native.Nat.{_-_, _≤_, _^_}
 use mathlib.Core.Path.{_≡_, refl}
 use native.Mathlib.Omega.{arith}
@@ -7,8 +7,8 @@ use lib.ListN.{getD}
 use Rattle.rules.specs.Cells.{every}
 use Rattle.log_bytes.proofs.Zeros.{every-more}
 use borrow.Author.Needs.{needs}
-use Rattle.log.proofs.encode.setting_fits.Statement.{statement}
-use Rattle.log.proofs.encode.setting_fits.Tie as tie
+use Rattle.log_fits.proofs.setting_fits.Statement.{statement}
+use Rattle.log_fits.proofs.setting_fits.Tie as tie
 
 abbrev Inv-loop : tie.InvT-loop
 Inv-loop setting ok₀ i₀ ok i = (i ≤ 9) × (ok ≡ every i (λ j. ltb (getD setting j 0) (2 ^ 32)))
