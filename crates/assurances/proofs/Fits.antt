@@ -9,28 +9,28 @@ use lib.Dec.{T, ltb, ltb→lt, lit<}
 use lib.ListN.{getD, set, replicate}
 use Rattle.head.specs.declared.Head.{Head}
 use Rattle.head.specs.Head.{movedHead, cells, activatedHead}
 use Rattle.rules.specs.declared.Setting.{Setting}
 use Rattle.rules.specs.declared.Limits.{Limits}
 use Rattle.rules.specs.declared.Decision.{Decision}
 use Rattle.rules.specs.declared.Decision.the-variants.{Open, Hold, OverQuota}
 use Rattle.rules.specs.Cells.{clearCells, All}
 use Rattle.rules.specs.Setting.{historyLength, indexScale}
 use Rattle.rules.specs.State.{State, countersUsed, threadsUsed, threadCell, rowWord, headWords, freshHead, fresh}
 use Rattle.rules.specs.Clock.{epoch, clears, activeFilter, turnedCounters, turnedThreads, turned}
 use Rattle.rules.specs.Hash.{places}
 use Rattle.rules.specs.Filter.{raised}
 use Rattle.rules.specs.Quota.{indexCounter}
 use Rattle.rules.specs.Policy.{Policy}
 use Rattle.rules.specs.Tested.{Ranges, Accepted, Taken}
 use Rattle.rules.specs.Decision.{quotaRule, decide, activatedThreads, activated}
 use Rattle.rules.specs.Calls.{Call, request, done, index, callTick, callBank, callThread, performed, refusalOf, afterDecision, requested, reported, indexShown, step, after}
-use Rattle.rules.specs.Claims.{Regular, Fits, Stored, RowFits, StepFits, RunFits}
+use Rattle.assurances.specs.Claims.{Regular, Fits, Stored, RowFits, StepFits, RunFits}
 use Rattle.rules.proofs.Cells.{set-cell, all-mapFrom, getD-first}
 use Rattle.rules.proofs.Accept.{call-taken}
 use Rattle.rules.proofs.Ring.{next-lt}
 use Rattle.rules.proofs.Filter.{raised-lt, counted-fits}
 use Rattle.rules.proofs.Memory.{memory}
 use Rattle.rules.proofs.Step.{opened-rules, by-refusal}
 
 -- ---- lists of cells below a bound
 

@@ -10,35 +10,35 @@ use lib.Dec.{T, ltb, ltb→lt, T-not}
 use lib.ListN.{length}
 use borrow.Author.Tests.{lt-leb, le-ltb, eq-eqb}
 use Rattle.head.specs.Head.{movedHead}
 use Rattle.rules.specs.declared.Setting.{Setting}
 use Rattle.rules.specs.declared.Limits.{Limits}
 use Rattle.rules.specs.declared.Cause.{Cause}
 use Rattle.rules.specs.declared.Cause.the-variants.{Row}
 use Rattle.rules.specs.declared.Decision.{Decision}
 use Rattle.rules.specs.declared.Decision.the-variants.{Open, Hold, OverQuota}
 use Rattle.rules.specs.declared.Answer.the-variants.{Opened, Wait}
 use Rattle.rules.specs.Answers.{none, answerWait}
 use Rattle.rules.specs.Setting.{epochLength, settingRefusal}
 use Rattle.rules.specs.State.{State, state, countersUsed, threadsUsed}
 use Rattle.rules.specs.Clock.{epoch, clears, turnedCounters, turnedThreads, turned}
 use Rattle.rules.specs.Hash.{places}
 use Rattle.rules.specs.History.{memoryOk}
 use Rattle.rules.specs.Policy.{Policy}
 use Rattle.rules.specs.Decision.{quotaRule, bankRule, rankRule, activeEstimate, rowRule, passesAt, waitTick, firstFailing, decide, activated, openingsLeft, answerOf}
 use Rattle.rules.specs.Tested.{Sound, Taken}
 use Rattle.rules.specs.Calls.{Call, request, done, index, answered, callRefusal, callTick, callBank, callThread, refusalOf, unlessRefused, afterDecision, requested, reported, indexShown, performed, step, replies, after, Activation, activationOf, activations}
-use Rattle.rules.specs.Claims.{TurnsAdd, WaitIsLater, OpenedAtWait, NeverWaitRow}
+use Rattle.assurances.specs.Claims.{TurnsAdd, WaitIsLater, OpenedAtWait, NeverWaitRow}
 use Rattle.rules.proofs.Tests.{and-l, and-r, holds, is-true, or-false, or-true}
 use Rattle.rules.proofs.Clearing.{clear-clear}
 use Rattle.rules.proofs.Clock.{clears-none, clears-one, clears-both, counters-none}
 use Rattle.rules.proofs.Accept.{accepted, epoch-long, orElse-none, taken, call-taken}
 use Rattle.rules.proofs.Memory.{memory, memory-ok}
 use Rattle.rules.proofs.Turn.{div-mono}
 use Rattle.rules.proofs.Decisions.{kindOf, numberOf, decision-of}
 use Rattle.rules.proofs.Step.{by-refusal, Answers, answers}
 use Rattle.rules.proofs.Sound.{long-not-short, step-sound}
 use Rattle.rules.proofs.Threshold.{below-threshold}
 use Rattle.rules.proofs.Wait.{wait-is-least}
 
 -- ---- two steps of the clock
 

@@ -9,30 +9,30 @@ use lib.Arith.{lt→nleb}
 use borrow.Author.Tests.{lt-leb, le-ltb}
 use lib.ListN.{getD, getD-replicate}
 use Rattle.head.specs.Head.{movedHead}
 use Rattle.rules.specs.declared.Setting.{Setting}
 use Rattle.rules.specs.declared.Limits.{Limits}
 use Rattle.rules.specs.declared.Answer.the-variants.{Opened}
 use Rattle.rules.specs.Cells.{clearCells}
 use Rattle.rules.specs.Answers.{none, shortBuffer, refuse}
 use Rattle.rules.specs.Setting.{settingRefusal}
 use Rattle.rules.specs.State.{State, countersUsed, threadsUsed, counterCell, threadCell, tooShort, freshHead, fresh}
 use Rattle.rules.specs.Clock.{epoch, clears, activeFilter, turnedCounters, turnedThreads, turned}
 use Rattle.rules.specs.Hash.{places}
 use Rattle.rules.specs.Filter.{Within, estimate, blacklisted}
 use Rattle.rules.specs.History.{memoryOk}
 use Rattle.rules.specs.Policy.{Policy}
 use Rattle.rules.specs.Decision.{quotaRule, bankRule, rankRule, activeEstimate, rowRule, decide, activated, openingsLeft}
 use Rattle.rules.specs.Calls.{answered, setupRefusal, callRefusal, unlessRefused, requested, step}
-use Rattle.rules.specs.Claims.{Regular, FirstOpened}
+use Rattle.assurances.specs.Claims.{Regular, FirstOpened}
 use Rattle.rules.proofs.Tests.{or-l, is-true, holds, fails}
 use Rattle.rules.proofs.Cells.{thread-in}
 use Rattle.rules.proofs.Clearing.{clear-zero, clear-kept}
 use Rattle.rules.proofs.Accept.{set-up, orElse-none}
 use Rattle.rules.specs.Tested.{SetUp}
 use Rattle.rules.proofs.Places.{places-within}
 use Rattle.rules.proofs.Memory.{memory-ok, turned-long}
 use Rattle.rules.proofs.Sound.{fresh-sound, long-not-short}
 use Rattle.rules.proofs.Left.{left-after}
 
 -- a cell that is 0 stays 0 when cells are cleared
 still-zero : (p : ℕ → Bool) (j : ℕ) (cs : List ℕ) → getD cs j 0 ≡ 0 → getD (clearCells p cs) j 0 ≡ 0

@@ -9,32 +9,33 @@ use lib.Dec.{T, leb, ltb, eqb, eqb→eq, ltb→lt, lt→ltb}
 use lib.ListN.{length, getD, set, length-set}
 use lib.Seq.{getD-set-same, getD-set-other}
 use Rattle.head.specs.Head.{movedHead, activatedHead}
 use Rattle.rules.specs.declared.Setting.{Setting}
 use Rattle.rules.specs.declared.Limits.{Limits}
 use Rattle.rules.specs.declared.Decision.{Decision}
 use Rattle.rules.specs.declared.Decision.the-variants.{Open, Hold, OverQuota}
 use Rattle.rules.specs.Cells.{every, clearCells, leastFrom}
 use Rattle.rules.specs.Answers.{Refusal, none, refusalNumber, refuse, noneInFlight}
 use Rattle.rules.specs.Setting.{historyLength, indexScale, settingRefusal}
 use Rattle.rules.specs.State.{State, countersUsed, threadsUsed, counterCell, threadCell, rowWord, fresh}
 use Rattle.rules.specs.Clock.{epoch, clears, activeFilter, turnedCounters, turnedThreads, turned}
 use Rattle.rules.specs.Hash.{places}
 use Rattle.rules.specs.Filter.{Within, estimate, blacklisted, raised, named}
 use Rattle.rules.specs.History.{back, notAfter, neverRises, memoryOk, matches, rowFree}
 use Rattle.rules.specs.Policy.{Policy}
 use Rattle.rules.specs.Decision.{passed, quotaRule, bankRule, rankRule, activeEstimate, rowRule, passesAt, waitTick, firstFailing, decide, activatedThreads, activated, answerOf}
 use Rattle.rules.specs.Tested.{Long, Taken}
 use Rattle.rules.specs.Calls.{Call, request, done, index, refused, answered, shown, Outcome, outcome, callRefusal, doneRefusal, callTick, callBank, callThread, refusalOf, unlessRefused, afterDecision, requested, reported, indexShown, performed, step, replies, after}
-use Rattle.rules.specs.Claims.{UsedFlying, SameUsed, withLimits, SameReplies}
+use Rattle.rules.specs.Claims.{UsedFlying}
+use Rattle.assurances.specs.Claims.{SameUsed, withLimits, SameReplies}
 use Rattle.rules.proofs.Tests.{holds, fails, every-same}
 use Rattle.rules.proofs.Cells.{thread-in}
 use Rattle.rules.proofs.Clearing.{clear-kept, clear-zero}
 use Rattle.rules.proofs.Places.{places-within}
 use Rattle.rules.proofs.Accept.{taken, call-taken, number-none}
 use Rattle.rules.proofs.Ring.{back-lt}
 use Rattle.rules.proofs.Filter.{counted-cell}
 use Rattle.rules.proofs.Memory.{memory, turned-long, activated-long, reported-long}
 use Rattle.rules.proofs.Sound.{long-not-short}
 
 -- ---- cells
 

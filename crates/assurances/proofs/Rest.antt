@@ -10,28 +10,28 @@ use lib.ListN.{List·getD-eq-default, length, getD, set, length-set}
 use lib.Dec.{T, ltb, eqb, eqb→eq, eqb-refl, ltb→lt, not-T}
 use lib.Seq.{getD-set-other}
 use Rattle.head.specs.Head.{movedHead}
 use Rattle.rules.specs.declared.Setting.{Setting}
 use Rattle.rules.specs.declared.Decision.{Decision}
 use Rattle.rules.specs.declared.Decision.the-variants.{Open, Hold, OverQuota}
 use Rattle.rules.specs.Cells.{member, clearCells}
 use Rattle.rules.specs.Setting.{historyLength, indexScale}
 use Rattle.rules.specs.State.{State, countersUsed, threadsUsed, counterCell, threadCell, fresh}
 use Rattle.rules.specs.Clock.{epoch, clears, turnedCounters, turnedThreads, turned}
 use Rattle.rules.specs.Hash.{places}
 use Rattle.rules.specs.Filter.{blacklisted, raised, named, counted}
 use Rattle.rules.specs.Policy.{Policy}
 use Rattle.rules.specs.Decision.{activeEstimate, decide, activatedThreads, activated}
 use Rattle.rules.specs.Tested.{Taken}
 use Rattle.rules.specs.Calls.{Call, request, done, index, finished, outcome, setup, setupRefusal, callTick, callBank, callThread, refusalOf, afterDecision, requested, reported, indexShown, performed, step}
-use Rattle.rules.specs.Claims.{SameFrom, SameRest, RestKept}
+use Rattle.assurances.specs.Claims.{SameFrom, SameRest, RestKept}
 use Rattle.rules.proofs.Tests.{and-l, or-l, or-r, or-e, cond-no}
 use Rattle.rules.proofs.Cells.{thread-in}
 use Rattle.rules.proofs.Clearing.{length-clear, clear-kept}
 use Rattle.rules.proofs.Places.{place-lt}
 use Rattle.rules.proofs.Accept.{call-taken}
 use Rattle.rules.proofs.Filter.{length-counted, counted-cell}
 use Rattle.rules.proofs.Memory.{memory}
 use Rattle.rules.proofs.Step.{by-refusal}
 
 -- ---- one buffer
 
