@@ -2,8 +2,8 @@
 use Rattle.rules.specs.State.{State, state}
 use Rattle.judged.proofs.Entries.{done-refused, done-settled}
 use borrow.Author.Needs.{needs}
-use Rattle.judge_done.proofs.judge_done.Statement.{statement}
-use Rattle.judge_done.proofs.judge_done.Tie as tie
+use Rattle.judge.proofs.entry.judge_done.Statement.{statement}
+use Rattle.judge.proofs.entry.judge_done.Tie as tie
 
 -- the start, from where the model was called
 abbrev asked : tie.After-done → tie.Start

@@ -2,8 +2,8 @@
 use Rattle.rules.specs.State.{State, state}
 use Rattle.judged.proofs.Entries.{request-refused, request-settled}
 use borrow.Author.Needs.{needs}
-use Rattle.judge_request.proofs.judge_request.Statement.{statement}
-use Rattle.judge_request.proofs.judge_request.Tie as tie
+use Rattle.judge.proofs.entry.judge_request.Statement.{statement}
+use Rattle.judge.proofs.entry.judge_request.Tie as tie
 
 abbrev begun : tie.After-request → tie.Start
 begun c = (c .before .before .before .before .before .before .before .before .before .before)
