@@ -251,7 +251,8 @@ enum throttle_answer {
 
 /*
  * Both in a few words, for messages; "unknown" for any other number. 11 to 13
- * are refusals of the log checker, 13 also of the log writer.
+ * are refusals of the log checker, 13 also of the log writer; 18 is one of
+ * throttle_fit_probes (throttle_probes.h).
  */
 static inline const char *throttle_refusal_name(uint32_t number)
 {
@@ -271,6 +272,7 @@ static inline const char *throttle_refusal_name(uint32_t number)
     case 11: return "input ends within a block";
     case 12: return "sum of a block is wrong";
     case 13: return "against the log format";
+    case 18: return "jitter or tick of a probe too large";
     default: return "unknown";
     }
 }

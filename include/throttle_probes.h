@@ -3,13 +3,12 @@
  * clocks differ by an unknown constant. One call says whether the two lists fit
  * and by how many ticks the clocks differ. Link with libprobes.a (x86-64), alone
  * or beside the other archives; it needs nothing beyond the C library. The call
- * reads memory of the caller and keeps nothing.
+ * works on memory of the caller and keeps nothing.
  */
 #ifndef THROTTLE_PROBES_H
 #define THROTTLE_PROBES_H
 
-#include "throttle_checked.h"
-#include "throttle_version.h"
+#include "throttle.h"
 
 #include <stddef.h>
 #include <stdint.h>
@@ -19,11 +18,15 @@ extern "C" {
 #endif
 
 enum {
-    THROTTLE_PROBES_OUT = 2,           /* words of out */
-    THROTTLE_PROBES_MOST_JITTER = 1000 /* ticks */
+    THROTTLE_PROBES_OUT = 2,            /* words of out */
+    THROTTLE_PROBES_MOST_JITTER = 1000, /* ticks */
+    THROTTLE_BAD_PROBES = 18            /* the refusal 18 below; 6 is THROTTLE_SHORT_BUFFER */
 };
 
-/* A row as the lists have it: bank * 65,536 + row. */
+/*
+ * A row as the lists have it: bank * 65,536 + row. C cuts wider numbers to their
+ * lowest 16 bits before the call; -Wconversion finds them.
+ */
 static inline uint32_t throttle_probes_row(uint16_t bank, uint16_t row)
 {
     return (uint32_t)bank * 65536u + row;
@@ -47,7 +50,8 @@ static inline uint32_t throttle_probes_row(uint16_t bank, uint16_t row)
  *   18  a jitter above 1,000, or a tick of 2^62 or more among the records of
  *       either list, one without a partner too
  *
- * It reads each record once. No pointer is null, also where its length is 0.
+ * It reads no record more than once. No pointer is null, also where its length
+ * is 0, and each is aligned for its cells. out does not overlap a list.
  */
 THROTTLE_CHECKED
 uint32_t throttle_fit_probes(const uint64_t *first_ticks, size_t first_ticks_len,
@@ -58,7 +62,7 @@ uint32_t throttle_fit_probes(const uint64_t *first_ticks, size_t first_ticks_len
                              uint64_t second_count, uint64_t jitter,
                              uint64_t out[THROTTLE_LEAST THROTTLE_PROBES_OUT]);
 
-/* The offset d that throttle_fit_probes wrote to out, as a signed number. */
+/* The offset d that throttle_fit_probes wrote to out, as a signed number; 0 where out[0] is 0. */
 static inline int64_t throttle_probes_offset(const uint64_t out[THROTTLE_LEAST THROTTLE_PROBES_OUT])
 {
     return out[1] >> 63 ? -(int64_t)(UINT64_MAX - out[1]) - 1 : (int64_t)out[1];

@@ -1,14 +1,15 @@
 /*
  * Every archive of the project in one program: the planner, the throttle and
  * the log writer are called with one setting, under both profiles, and what they
- * give is compared with what the specification says of it; and the hashing of
- * rows, which bench/run alone uses, by both of its ways. The argument is the
- * path of samples/sample.log, whose first block is what the log writer must
- * write under the large profile.
+ * give is compared with what the specification says of it; the fit of two probes;
+ * and the hashing of rows, which bench/run alone uses, by both of its ways. The
+ * argument is the path of samples/sample.log, whose first block is what the log
+ * writer must write under the large profile.
  */
 #include "throttle.h"
 #include "throttle_log.h"
 #include "throttle_plan.h"
+#include "throttle_probes.h"
 
 #include <stdio.h>
 #include <string.h>
@@ -142,6 +143,30 @@ static void check_log(const uint8_t sample[THROTTLE_LOG_BLOCK])
     }
 }
 
+/* Differences of -998, -1,000 and -999 ticks: jitter 1 leaves the offset -999 alone, 0 leaves none. Refusal 6 stands before 18. */
+static void check_probes(void)
+{
+    uint64_t first[] = {5000, 5007, 5011}, second[] = {4002, 4007, 4012}, out[THROTTLE_PROBES_OUT] = {7, 7};
+    uint32_t rows[] = {5, throttle_probes_row(1, 5), throttle_probes_row(15, 65535)}, others[3];
+    memcpy(others, rows, sizeof others);
+    check(throttle_fit_probes(first, 3, rows, 3, 3, second, 3, others, 3, 3, 1, out) == 0 && out[0] == 1 &&
+              throttle_probes_offset(out) == -999,
+          "throttle_fit_probes does not answer -999");
+    check(throttle_fit_probes(first, 3, rows, 3, 3, second, 3, others, 3, 3, 0, out) == 0 && out[0] == 0 && out[1] == 0,
+          "throttle_fit_probes has an offset without jitter");
+    check(throttle_fit_probes(first, 3, rows, 3, 0, second, 3, others, 3, 0, 0, out) == 0 && out[0] == 1 &&
+              throttle_probes_offset(out) == -1000,
+          "throttle_fit_probes does not answer -1000 for two empty lists");
+    out[0] = out[1] = 7;
+    check(throttle_fit_probes(first, 3, rows, 3, 3, second, 3, others, 3, 3, THROTTLE_PROBES_MOST_JITTER + 1, out) ==
+              THROTTLE_BAD_PROBES,
+          "throttle_fit_probes takes a jitter of 1,001");
+    check(throttle_fit_probes(first, 3, rows, 3, 3, second, 3, others, 2, 3, THROTTLE_PROBES_MOST_JITTER + 1, out) ==
+              THROTTLE_SHORT_BUFFER,
+          "throttle_fit_probes takes a count above its rows");
+    check(out[0] == 7 && out[1] == 7, "a refused throttle_fit_probes writes to out");
+}
+
 /* The benchmark's archive has no header: the exclusive or of the hashes of all rows, function f's 16 f bits up. */
 uint64_t hash_rows(const uint16_t *seeds, size_t seeds_length, const uint16_t *rows, size_t rows_length, uint32_t table);
 
@@ -184,6 +209,7 @@ int main(int count, char **arguments)
     check_throttle(THROTTLE_PROFILE_LARGE);
     check_throttle(THROTTLE_PROFILE_SMALL);
     check_log(sample);
+    check_probes();
     check_hashes();
     return failed;
 }

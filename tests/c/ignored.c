@@ -6,10 +6,11 @@
 #include "throttle.h"
 #include "throttle_log.h"
 #include "throttle_plan.h"
+#include "throttle_probes.h"
 
 static uint64_t setting[THROTTLE_SETTING_WORDS], head[THROTTLE_HEAD_CELLS], ticks[8];
 static uint64_t out[THROTTLE_REQUEST_OUT], index_out[THROTTLE_INDEX_OUT];
-static uint64_t delays[THROTTLE_DELAYS_OUT], bound[THROTTLE_SPAN_OUT];
+static uint64_t delays[THROTTLE_DELAYS_OUT], bound[THROTTLE_SPAN_OUT], fit[THROTTLE_PROBES_OUT];
 static uint16_t seeds[THROTTLE_SEEDS], counters[2048], row;
 static uint32_t rows[8], threads[3], wide_counters[2048];
 static uint8_t block[THROTTLE_LOG_BLOCK];
@@ -18,6 +19,8 @@ static uint8_t block[THROTTLE_LOG_BLOCK];
 #define WIDE_STATE setting, seeds, THROTTLE_SEEDS, head, wide_counters, 2048, ticks, 8, rows, 8, threads, 3
 #define OLD_STATE \
     setting, seeds, THROTTLE_SEEDS, head, counters, 2048, wide_counters, 2048, ticks, 8, rows, 8, threads, 3
+
+#define RECORDS ticks, 8, rows, 8, 8
 
 /* Calls of the old width. */
 static void old_width(void)
@@ -56,7 +59,7 @@ static void new_width(void)
 #endif
 }
 
-/* A row's test, the log writer and the planner. */
+/* A row's test, the log writer, the planner and the probes. */
 static void beside_state(void)
 {
 #ifdef IGNORE_throttle_row
@@ -80,6 +83,9 @@ static void beside_state(void)
 #ifdef IGNORE_throttle_span_bound
     throttle_span_bound(setting, 40, bound);
 #endif
+#ifdef IGNORE_throttle_fit_probes
+    throttle_fit_probes(RECORDS, RECORDS, 0, fit);
+#endif
 }
 
 int main(void)
@@ -91,5 +97,6 @@ int main(void)
     return throttle_setup(STATE) + throttle_request(STATE, 0, 0, 0, 5, out) + throttle_row(5, &row) +
            throttle_index(STATE, 0, 0, 0, index_out) + throttle_delays(setting, delays) +
            throttle_wide_delays(setting, delays) + throttle_log_seal(block, 1, 1) + throttle_change_over(OLD_STATE) +
-           throttle_wide_setup(WIDE_STATE) + throttle_span_bound(setting, 40, bound) > 0;
+           throttle_wide_setup(WIDE_STATE) + throttle_span_bound(setting, 40, bound) +
+           throttle_fit_probes(RECORDS, RECORDS, 0, fit) > 0;
 }

@@ -7,6 +7,7 @@
 #include "throttle.h"
 #include "throttle_log.h"
 #include "throttle_plan.h"
+#include "throttle_probes.h"
 
 /* The settings of the calls and the words that throttle_words writes, then the other arrays. */
 enum {
@@ -35,6 +36,8 @@ enum {
     DELAYS_OUT,
     WIDE_DELAYS_OUT,
     SPAN_OUT,
+    PROBES_OUT,
+    OFFSET_OUT,
     BLOCK
 };
 #ifndef SHORT
@@ -66,6 +69,8 @@ static uint64_t wide_index_out[LENGTH(WIDE_INDEX_OUT, THROTTLE_INDEX_OUT)];
 static uint64_t delays_out[LENGTH(DELAYS_OUT, THROTTLE_DELAYS_OUT)];
 static uint64_t wide_delays_out[LENGTH(WIDE_DELAYS_OUT, THROTTLE_DELAYS_OUT)];
 static uint64_t span_out[LENGTH(SPAN_OUT, THROTTLE_SPAN_OUT)];
+static uint64_t probes_out[LENGTH(PROBES_OUT, THROTTLE_PROBES_OUT)];
+static uint64_t offset_out[LENGTH(OFFSET_OUT, THROTTLE_PROBES_OUT)];
 static uint8_t block[LENGTH(BLOCK, THROTTLE_LOG_BLOCK)];
 
 static uint16_t seeds[THROTTLE_SEEDS], counters[2048];
@@ -77,6 +82,7 @@ static uint32_t rows[8], threads[3], wide_counters[2048];
 #define WIDE_STATE(setting) setting, seeds, THROTTLE_SEEDS, wide_head, wide_counters, 2048, BEHIND
 #define OLD_STATE \
     change_setting, seeds, THROTTLE_SEEDS, change_head, counters, 2048, wide_counters, 2048, BEHIND
+#define RECORDS ticks, 8, rows, 8, 8
 
 uint32_t call_all(const struct throttle_setting *s);
 
@@ -91,5 +97,6 @@ uint32_t call_all(const struct throttle_setting *s)
            throttle_wide_index(WIDE_STATE(wide_index_setting), 0, 0, 0, wide_index_out) +
            throttle_change_over(OLD_STATE) + throttle_log_start(log_setting, seeds, THROTTLE_SEEDS, block) +
            throttle_delays(plan_setting, delays_out) + throttle_wide_delays(wide_plan_setting, wide_delays_out) +
-           throttle_span_bound(span_setting, 40, span_out);
+           throttle_span_bound(span_setting, 40, span_out) + throttle_fit_probes(RECORDS, RECORDS, 0, probes_out) +
+           (throttle_probes_offset(offset_out) < 0);
 }

@@ -36,6 +36,7 @@ copy_tree() {
     need_archive throttle
     archive_crates=${#members[@]}
     need_archive plan
+    need_archive probes
     need_archive hash_rows
     work=$(mktemp -d "$source_tree/target/commands.XXXXXX")
     trap 'rm -rf "$work"' EXIT

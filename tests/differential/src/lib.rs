@@ -1,8 +1,8 @@
 //! Tests of the compiled library from outside. It is compared, call by call,
 //! with the second implementation, which was written from the specification
 //! alone; and it is attacked by programs that try to activate a row more often
-//! than the setting allows. Block 0 of the log writer and the planner's calls
-//! are compared too.
+//! than the setting allows. Block 0 of the log writer, the planner's calls and the fit of
+//! two probes are compared too.
 //!
 //! The throttle is compared in both widths, and so are the change-over and what a
 //! state that was taken over answers.
@@ -27,6 +27,8 @@
 //! - `twins`: one setting under both profiles
 //! - `writer`, `planner`: block 0 of logs, and the delays of settings
 //! - `spans`: the bound of spans of every length
+//! - `probes`, `probe_lists`, `probe_tally`: the fit of two probes, listed lists and what
+//!   lists reached
 //! - `orders`: groups of activations in several orders, and what the filters hold
 //!   after them
 //! - `adversary`, `crossed`, `reached`: rows hammered as often as the answers allow,
@@ -54,6 +56,9 @@ pub mod numbers;
 pub mod orders;
 pub mod pair;
 pub mod planner;
+mod probe_lists;
+pub mod probe_tally;
+pub mod probes;
 mod profiles;
 pub mod reached;
 pub mod rings;

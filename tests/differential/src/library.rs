@@ -1,6 +1,7 @@
 //! The calls of the archives, as the headers declare them: the four calls of the
 //! throttle in both widths and the change-over (include/throttle.h), block 0 of the
-//! log writer (include/throttle_log.h) and the planner (include/throttle_plan.h).
+//! log writer (include/throttle_log.h), the planner (include/throttle_plan.h) and the fit
+//! of two probes (include/throttle_probes.h).
 
 use crate::call::{Call, Kind};
 use crate::memory::{Counters, Guarded, Memory};
@@ -83,6 +84,21 @@ extern "C" {
     fn throttle_wide_delays(setting: *const u64, out: *mut u64) -> u32;
 
     fn throttle_span_bound(setting: *const u64, x: u64, out: *mut u64) -> u32;
+
+    fn throttle_fit_probes(
+        first_ticks: *const u64,
+        first_ticks_len: usize,
+        first_rows: *const u32,
+        first_rows_len: usize,
+        first_count: u64,
+        second_ticks: *const u64,
+        second_ticks_len: usize,
+        second_rows: *const u32,
+        second_rows_len: usize,
+        second_count: u64,
+        jitter: u64,
+        out: *mut u64,
+    ) -> u32;
 }
 
 /// Calls a function of the library on the memory with these counters, with further
@@ -235,4 +251,29 @@ pub fn span_bound(setting: &Guarded<u64>, x: u64, out: &mut Guarded<u64>) -> u32
     assert_eq!((setting.cells().len(), out.cells().len()), (10, 1));
     // The pointers are those of live, separate buffers of these lengths.
     unsafe { throttle_span_bound(setting.cells().as_ptr(), x, out.cells_mut().as_mut_ptr()) }
+}
+
+/// What a probe recorded, as it is lent: ticks, rows and the count of records.
+pub type Recorded = (Guarded<u64>, Guarded<u32>, u64);
+
+/// Fits two lists; out has two words.
+pub fn fit_probes([first, second]: &[Recorded; 2], jitter: u64, out: &mut Guarded<u64>) -> u32 {
+    assert_eq!(out.cells().len(), 2);
+    // The pointers are those of live, separate buffers of these lengths.
+    unsafe {
+        throttle_fit_probes(
+            first.0.cells().as_ptr(),
+            first.0.cells().len(),
+            first.1.cells().as_ptr(),
+            first.1.cells().len(),
+            first.2,
+            second.0.cells().as_ptr(),
+            second.0.cells().len(),
+            second.1.cells().as_ptr(),
+            second.1.cells().len(),
+            second.2,
+            jitter,
+            out.cells_mut().as_mut_ptr(),
+        )
+    }
 }

@@ -1,6 +1,6 @@
-//! Plausible wrong behaviours of the throttle, the log checker, the log writer
-//! and the planner's calls. A test campaign switches on one of them and asks whether it
-//! would notice. `Fault::None` is the plain specification.
+//! Plausible wrong behaviours of the throttle, the log checker, the log writer, the
+//! planner's calls and the fit of two probes. A test campaign switches on one of them and
+//! asks whether it would notice. `Fault::None` is the plain specification.
 //!
 //! - `CALLS`: of the four calls, but for the lists from `LEFT` to `SMALL`
 //! - `LEFT`: of the openings left that a request reports
@@ -20,6 +20,8 @@
 //! - `SPAN_REFUSALS`: of the refusals of the call that gives it
 //! - `SEEDS`: of the hash by the seed rule, shown under other than the house seeds
 //! - `ORDER`: of the filters, which depend on the order of the activations
+//! - `PROBES`: of the fit of two probes
+//! - `PROBES_REFUSALS`: of the refusals of the call that gives it
 //!
 //! The listings are in files of their own, and `listing` makes the enum from them.
 
@@ -37,11 +39,13 @@ mod width;
 mod change;
 #[macro_use]
 mod span;
+#[macro_use]
+mod probes;
 
 joined! {
     [
         faults_of_calls faults_of_left faults_of_hash faults_of_profile faults_of_width
-        faults_of_change faults_of_span
+        faults_of_change faults_of_span faults_of_probes
     ]
     {}
 }

@@ -20,6 +20,8 @@
 //! - `write`: the log writer and an encoder for logs
 //! - `plan`: the planner, that is the delays with which a setting is accepted
 //! - `span`: the most activations of a row in a span of any length
+//! - `probes`, `probe_refusals`: whether the lists of two probes fit, and how far their
+//!   clocks are apart
 //! - `fault`: wrong behaviours that can be switched on, one at a time, made by
 //!   `listing` from the lists under `fault`
 
@@ -37,6 +39,8 @@ pub mod limits;
 pub mod log;
 pub mod model;
 pub mod plan;
+mod probe_refusals;
+pub mod probes;
 pub mod profile;
 pub mod quota;
 pub mod setting;
@@ -49,6 +53,7 @@ pub use change::change_over;
 pub use fault::Fault;
 pub use limits::{Limits, NEW, OLD};
 pub use model::{done, index, request, setup};
+pub use probes::fit_probes;
 pub use setting::{Config, Setting};
 pub use span::span_bound;
 pub use state::State;

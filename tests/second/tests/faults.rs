@@ -1,7 +1,7 @@
 //! Every wrong behaviour of the calls that can be switched on shows in a campaign
 //! of small runs, on memory set up and on memory of any contents. Those of the
-//! hash by bytes, of the profile mark, of the widths and of spans have tests of
-//! their own.
+//! hash by bytes, of the profile mark, of the widths, of spans and of two probes have
+//! tests of their own.
 
 mod common;
 
@@ -75,6 +75,8 @@ fn every_fault_belongs_to_a_part() {
         Fault::SPAN_REFUSALS,
         Fault::SEEDS,
         Fault::ORDER,
+        Fault::PROBES,
+        Fault::PROBES_REFUSALS,
     ];
     assert_eq!(parts.concat(), Fault::ALL);
 }

@@ -2,9 +2,9 @@
 //! campaign in each width, on listed histories and counters, on settings at bounds,
 //! and under the house seeds and seeds next to them; the change-over, alone and in
 //! lists of calls; the library with itself under both profiles, in both widths after
-//! a change-over and with activations in several orders; the log writer, the planner
-//! and the bounds of spans. Arguments, both optional: the seed and the number of runs
-//! in the old width.
+//! a change-over and with activations in several orders; the log writer, the planner,
+//! the bounds of spans and the fit of two probes. Arguments, both optional: the seed and
+//! the number of runs in the old width.
 
 use differential::campaign::Campaign;
 use differential::hashes::Sides;
@@ -13,8 +13,8 @@ use differential::settings::{accepted, bases};
 use differential::side::Library;
 use differential::tally::{Tally, LEAST};
 use differential::{
-    beside, change_refusals, crossing, edges, far, hashes, levels, orders, planner, rings, spans,
-    twins, writer,
+    beside, change_refusals, crossing, edges, far, hashes, levels, orders, planner, probes, rings,
+    spans, twins, writer,
 };
 use second::{Fault, Limits, NEW, OLD};
 use std::fmt::Debug;
@@ -50,6 +50,7 @@ fn main() -> ExitCode {
         && written(seed)
         && both.into_iter().all(|limits| planned(seed, limits))
         && spanned(seed)
+        && probed(seed)
         && both.into_iter().all(|limits| ordered(seed, limits));
     if !same {
         println!("compare: FAILED");
@@ -227,6 +228,19 @@ fn spanned(seed: u64) -> bool {
             both.iter().all(|&count| count > LEAST)
         },
     )
+}
+
+/// Compares the fit of two probes: each kind of lists is to come among the listed ones,
+/// and often among those at random; long lists fit or do not.
+fn probed(seed: u64) -> bool {
+    let listed = probes::listed(Fault::None);
+    let short = probes::short(seed, Fault::None);
+    let long = probes::long(seed, Fault::None);
+    none("two probes, listed", listed, |told| told.fewest() > 0)
+        && none("two probes, at random", short, |told| told.fewest() > LEAST)
+        && none("two probes, long lists", long, |told| {
+            told.fitting().min(told.unfit()) > LEAST
+        })
 }
 
 /// Compares the filters of the library after groups in several orders, and after

@@ -1,8 +1,8 @@
 //! Shows that the comparison sees: the library against the second
 //! implementation with one fault switched on must differ, for each fault of the
 //! calls in each width, of the hash by bytes, of the change-over, of the log writer,
-//! of the planner and of the bounds of spans. Those of the log checker are shown by
-//! tests/log/run.
+//! of the planner, of the bounds of spans and of the fit of two probes. Those of the log
+//! checker are shown by tests/log/run.
 //! Argument, optional: the seed.
 
 use differential::campaign::Campaign;
@@ -13,8 +13,8 @@ use differential::rings::By;
 use differential::side::Second;
 use differential::tally::Tally;
 use differential::{
-    beside, change_refusals, crossing, edges, far, hashes, levels, orders, planner, rings, spans,
-    twins, writer,
+    beside, change_refusals, crossing, edges, far, hashes, levels, orders, planner, probes, rings,
+    spans, twins, writer,
 };
 use second::{Fault, Limits, NEW, OLD};
 use std::ops::Range;
@@ -24,7 +24,7 @@ use std::process::ExitCode;
 const FIRST: u64 = 300;
 const RUNS: u64 = 5_000;
 /// Faults that are to be planted at least, those of both widths twice.
-const FAULTS: usize = 641;
+const FAULTS: usize = 775;
 /// Bits of the 64 seeds, up to 1,023.
 const BITS: usize = 64 * hashes::BITS as usize;
 /// Wrong histories in refusal 7, which the change-over has to show too.
@@ -92,6 +92,9 @@ fn main() -> ExitCode {
     println!("faults: bounds of spans");
     let bounds = [Fault::SPAN, Fault::SPAN_REFUSALS].concat();
     planted.all(&bounds, |fault| spans::compare(seed, fault).err());
+    println!("faults: two probes");
+    let fits = [Fault::PROBES, Fault::PROBES_REFUSALS].concat();
+    planted.all(&fits, |fault| in_probes(seed, fault));
     let Planted { many, caught } = planted;
     println!("faults: {caught} of {many} caught");
     let bits = bits_seen(seed);
@@ -142,6 +145,8 @@ fn every_list() -> bool {
         Fault::SPAN_REFUSALS,
         Fault::SEEDS,
         Fault::ORDER,
+        Fault::PROBES,
+        Fault::PROBES_REFUSALS,
     ];
     let by_logs = Fault::CHECKER.len() + Fault::LOG_LIMITS.len();
     here.concat().len() + by_logs == Fault::ALL.len()
@@ -237,6 +242,12 @@ fn in_change(seed: u64, fault: Fault) -> Option<String> {
         .or_else(|| rings::compare(By::ChangeOver, fault).err())
         .or_else(|| crossing::compare(seed, fault).err());
     found.map(|difference| difference.what)
+}
+
+/// The first difference from a fault of the fit of two probes.
+fn in_probes(seed: u64, fault: Fault) -> Option<String> {
+    let listed = probes::listed(fault).err();
+    listed.or_else(|| probes::short(seed, fault).err())
 }
 
 /// The second implementation with a fault.

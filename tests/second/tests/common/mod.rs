@@ -1,9 +1,10 @@
 //! What the tests share: the setting S of the sample runs, a throttle with its
 //! own memory, random numbers, and logs made with a rule of document 01; in
-//! `runs` settings, memory and calls at random, and in `wide` those that only the
-//! new width takes.
+//! `runs` settings, memory and calls at random, in `wide` those that only the
+//! new width takes, and in `probes` the lists of two probes.
 #![allow(dead_code)]
 
+pub mod probes;
 pub mod runs;
 pub mod wide;
 

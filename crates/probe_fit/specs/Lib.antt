@@ -1,0 +1,4 @@
+pub mod Probes
+pub mod Closed
+pub mod Claims
+pub mod Samples
