@@ -3,46 +3,23 @@
 use answers::answer;
 use answers::openings_left;
 use answers::opens;
-use filter::bank_estimate;
 use filter_count::count;
+use filter_look::look;
 use filterless::Decided;
-use filterless::Estimates;
 use filterless::decide_by;
 use head::Head;
 use rules::Setting;
 use state::activate;
 ghost use mathlib.Core.Path.{_≡_};
-ghost use Prim.Native.Nat.{_-_, _*_, _%_, _^_, _≤_, _<_};
-ghost use lib.ListN.{length, getD};
+ghost use lib.ListN.{getD};
 ghost use Rattle.rules.specs.Answers.{none};
 ghost use Rattle.rules.specs.State.{state};
-ghost use Rattle.rules.specs.Clock.{turnedCounters, turned};
+ghost use Rattle.rules.specs.Clock.{turned};
 ghost use Rattle.rules.specs.Hash.{places};
-ghost use Rattle.rules.specs.Filter.{Within, two, estimate};
 ghost use Rattle.rules.specs.Policy.{limits01, narrow};
 ghost use Rattle.rules.specs.Tested.{Sound};
 ghost use Rattle.rules.specs.Calls.{answered, callRefusal, outcome, requested};
 ghost use Rattle.hash_words.specs.Words.{TableFor};
-
-// Turns the filters from one epoch to another, and reads the estimates of a row with these places in filter 0 and filter 1 then.
-fn look(
-    counters: &mut [u16],
-    banks: usize,
-    from: u64,
-    to: u64,
-    bank: usize,
-    first: [usize; 4],
-    second: [usize; 4],
-) -> Estimates
-    requires { ⌜ (banks ≤ 16) × (banks * 2048 ≤ length (now counters)) × (from < 2 ^ 63) × (bank < banks) × Within first × Within second ⌝ }
-    ensures { λ r. ⌜ (now (counters .exit) ≡ turnedCounters (banks * 2048) from to (now (counters .entry))) × (r .active ≡ estimate (now (counters .exit)) bank (to % 2) (two first second (to % 2))) × (r .other ≡ estimate (now (counters .exit)) bank (1 - to % 2) (two first second (1 - to % 2))) ⌝ }
-{
-    filter_turn::turn(counters, banks, from, to);
-    let f = (to % 2) as usize;
-    let active = bank_estimate(&*counters, bank, first, second, f) as u64;
-    let other = bank_estimate(&*counters, bank, first, second, 1 - f) as u64;
-    Estimates { active, other }
-}
 
 // Decides on a request and, where it is opened, makes the activation. stored is the bank's cell of the head; `table` says that the seeds are the
 // house seeds.
@@ -64,7 +41,7 @@ pub fn request(
     requires { ⌜ (callRefusal limits01 s (now seeds) (state h (now counters) (now ticks) (now rows) (now threads)) tick bank thread ≡ none) × (stored ≡ getD (h .bank) bank 0) × TableFor table (now seeds) ⌝ }
     ensures { λ r. ⌜ (outcome (answered (r .answer)) (state (r .head) (now (counters .exit)) (now (ticks .exit)) (now (rows .exit)) (now (threads .exit))) ≡ requested narrow s (λ f. places (now (seeds .entry)) row) (turned s (state h (now (counters .entry)) (now (ticks .entry)) (now (rows .entry)) (now (threads .entry))) tick) bank thread row) × Sound s (state (r .head) (now (counters .exit)) (now (ticks .exit)) (now (rows .exit)) (now (threads .exit))) ⌝ }
 {
-    let x = state::turn(s, h, threads, tick);
+    let x = state_clock::turn(s, h, threads, tick);
     let moved = x.head;
     let to = x.to;
     let four = hash::places(table, seeds, row);

@@ -11,7 +11,7 @@ ghost use mathlib.Core.Path.{_≡_};
 ghost use mathlib.Core.List.{List};
 ghost use Rattle.rules.specs.Policy.{narrow};
 ghost use Rattle.log_format.specs.Verdict.{verdict};
-ghost use Rattle.judge.specs.Follow.{reportOf};
+ghost use Rattle.judged.specs.Follow.{reportOf};
 ghost use Rattle.checker_reading.specs.Blocks.{readSoFar, Carried, Ready, JudgedBlock};
 ghost use Rattle.report.specs.Text.{textOf};
 ghost use Rattle.check_log.specs.Fills.{judgeFilled};
@@ -34,7 +34,7 @@ fn judge_filled(
     match filled {
         Filled::Whole => {}
         Filled::End => {
-            let report = checker::at_end(p, true);
+            let report = checker_end::at_end(p, true);
             return Next {
                 over: true,
                 report,
@@ -42,7 +42,7 @@ fn judge_filled(
             };
         }
         Filled::Cut => {
-            let report = checker::at_end(p, false);
+            let report = checker_end::at_end(p, false);
             return Next {
                 over: true,
                 report,

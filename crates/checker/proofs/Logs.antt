@@ -1,4 +1,4 @@
--- The blocks of a log one by one, and the end of the input.
+-- The blocks of a log one by one.
 use mathlib.Core.Path.{_≡_, refl, sym, ap, _∙_}
 use mathlib.Core.List.{List, [], _∷_}
 use mathlib.Core.Bool.{Bool, true, false}
@@ -6,18 +6,15 @@ use Prim.Native.Nat.{ℕ, _+_, _-_, _/_, _%_, _<_}
 use native.Mathlib.Omega.{arith}
 use lib.Dec.{eqb}
 use lib.ListN.{length}
-use borrow.Author.Tests.{eq-eqb, ne-eqb}
 use Rattle.head.specs.declared.Head.{Head}
 use Rattle.rules.specs.State.{freshHead, state}
 use Rattle.log_format.specs.Bytes.{blockAt, blocksFrom}
 use Rattle.log_format.specs.Verdict.{Verdict, Running, Step, over, on, memory, ended, verdictOf, judgeStart, judgeSound, judgeBlock, judgeBlocks, unread, verdict}
 use Rattle.log_format.proofs.Steps.{blocks-step}
-use Rattle.tally.specs.declared.Progress.{Progress}
 use Rattle.tally.specs.declared.Report.{Report}
-use Rattle.tally.specs.declared.Report.the-variants.{Refused, Agrees}
-use Rattle.judge.specs.Follow.{progressOf, reportOf, Follows}
+use Rattle.judged.specs.Follow.{reportOf, Follows}
 use Rattle.checker_reading.specs.Blocks.{Ready, JudgedBlock}
-use Rattle.checker_records.proofs.Steps.{not-both}
+use Rattle.judged.proofs.Steps.{not-both}
 use Rattle.rules.specs.Policy.{limits01, narrow}
 
 -- ---- before the first block
@@ -107,17 +104,3 @@ module _ (bytes : List ℕ) (n : ℕ) (whole : Bool) where
 pub of-bytes : (bytes : List ℕ) → verdict narrow bytes ≡ ofAll bytes (length bytes / 512) (eqb (length bytes % 512) 0)
 unfolding verdict
 of-bytes bytes = refl
-
--- ---- the end of the input
-
-pub end-cut : (p : Progress) (whole : Bool) → whole ≡ false → Refused 11 (p .blocks) ≡ reportOf (ended (progressOf p) whole)
-end-cut p true e = absurd (not-both true refl e)
-end-cut p false e = refl
-
-pub end-empty : (p : Progress) (whole : Bool) → whole ≡ true → p .blocks ≡ 0 → Refused 11 0 ≡ reportOf (ended (progressOf p) whole)
-end-empty p true e z = rw (eq-eqb (p .blocks) 0 z)
-end-empty p false e z = absurd (not-both false e refl)
-
-pub end-agrees : (p : Progress) (whole : Bool) → whole ≡ true → (p .blocks ≡ 0 → ⊥) → Agrees (p .records) (p .opened) ≡ reportOf (ended (progressOf p) whole)
-end-agrees p true e n = rw (ne-eqb (p .blocks) 0 n)
-end-agrees p false e n = absurd (not-both false e refl)

@@ -1,6 +1,7 @@
-// The log checker: a whole log in a slice of bytes, block by block, and what a caller that reads the blocks itself needs at both ends of
-// the input. A block is judged only through its contract; the report is proved to be the one of the log's definition of the verdict.
+// The log checker: a whole log in a slice of bytes, block by block, and where a caller that reads the blocks itself begins; where the input ends stands in
+// the crate `checker_end`. A block is judged only through its contract; the report is proved to be the one of the log's definition of the verdict.
 use checker_block::judge_block;
+use checker_end::at_end;
 use checker_reading::Reading;
 use head::Head;
 use rules::Setting;
@@ -13,8 +14,8 @@ ghost use lib.ListN.{length};
 ghost use Rattle.rules.specs.State.{freshHead};
 ghost use Rattle.rules.specs.Policy.{limits01, narrow};
 ghost use Rattle.log_format.specs.Bytes.{blockAt};
-ghost use Rattle.log_format.specs.Verdict.{ended, unread, verdict};
-ghost use Rattle.judge.specs.Follow.{progressOf, reportOf};
+ghost use Rattle.log_format.specs.Verdict.{unread, verdict};
+ghost use Rattle.judged.specs.Follow.{progressOf, reportOf};
 ghost use Rattle.checker_reading.specs.Blocks.{readSoFar, Carried, Ready};
 
 // Before the first block. The buffers may hold anything, since block 0 sets the model up in them; 32,768 counters, 4,096 ticks and rows and
@@ -52,28 +53,6 @@ pub fn start() -> Reading
         seeds: [0; 64],
         table: false,
         head,
-    }
-}
-
-// The end of the input, of which nothing is left behind the last whole block, or some bytes are.
-pub fn at_end(p: Progress, whole: bool) -> Report
-    ensures { λ r. ⌜ r ≡ reportOf (ended (progressOf p) whole) ⌝ }
-{
-    if whole {
-        if p.blocks == 0 {
-            return Report::Refused {
-                number: 11,
-                blocks: 0,
-            };
-        }
-        return Report::Agrees {
-            records: p.records,
-            opened: p.opened,
-        };
-    }
-    Report::Refused {
-        number: 11,
-        blocks: p.blocks,
     }
 }
 

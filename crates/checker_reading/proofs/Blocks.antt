@@ -16,9 +16,9 @@ use Rattle.tally.specs.declared.Progress.{Progress}
 use Rattle.tally.specs.declared.Report.{Report}
 use Rattle.tally.specs.declared.Report.the-variants.{Refused}
 use Rattle.tally.specs.declared.After.{After}
-use Rattle.judge.specs.Follow.{running, Follows, Judged}
+use Rattle.judged.specs.Follow.{running, Follows, Judged}
 use Rattle.checker_reading.specs.Blocks.{Ready, JudgedBlock}
-use Rattle.checker_records.proofs.Steps.{not-both}
+use Rattle.judged.proofs.Steps.{not-both}
 use Rattle.rules.specs.Policy.{narrow}
 
 -- ---- a block with records

@@ -18,9 +18,9 @@ use Rattle.log_format.specs.Contents.{settingIn, seedsIn}
 use Rattle.log_format.specs.Verdict.{Running, refusedAfter, over, on, setUp, judgeStart}
 use Rattle.tally.specs.declared.Progress.{Progress}
 use Rattle.tally.specs.declared.Report.the-variants.{Refused}
-use Rattle.judge.specs.Follow.{running}
+use Rattle.judged.specs.Follow.{running}
 use Rattle.checker_reading.specs.Blocks.{JudgedBlock}
-use Rattle.checker_records.proofs.Steps.{not-both}
+use Rattle.judged.proofs.Steps.{not-both}
 
 -- one block is read, and no record
 abbrev pub oneBlock : Progress

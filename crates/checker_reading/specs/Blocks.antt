@@ -12,7 +12,7 @@ use Rattle.hash_words.specs.Words.{TableFor}
 use Rattle.log_format.specs.Verdict.{Running, Step}
 use Rattle.tally.specs.declared.Report.{Report}
 use Rattle.checker_reading.specs.declared.Reading.{Reading}
-use Rattle.judge.specs.Follow.{running, Follows}
+use Rattle.judged.specs.Follow.{running, Follows}
 
 -- a log that is read so far, with the four buffers of its model
 abbrev pub readSoFar : Reading → List ℕ → List ℕ → List ℕ → List ℕ → Running

@@ -15,8 +15,8 @@ use Rattle.log_format.proofs.Steps.{records-step}
 use Rattle.tally.specs.declared.Progress.{Progress}
 use Rattle.tally.specs.declared.Report.{Report}
 use Rattle.tally.specs.declared.After.{After}
-use Rattle.judge.specs.Follow.{running, Follows, Judged}
-use Rattle.checker_records.proofs.Steps.{over-then, on-then}
+use Rattle.judged.specs.Follow.{running, Follows, Judged}
+use Rattle.judged.proofs.Steps.{over-then, on-then}
 use Rattle.rules.specs.Policy.{narrow}
 
 module _ (s : Setting) (seeds block : List ℕ) (p : Progress) (n : ℕ) (start : State) where

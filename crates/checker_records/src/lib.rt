@@ -17,7 +17,7 @@ ghost use Rattle.log_format.specs.Contents.{countIn, entriesIn};
 ghost use Rattle.log_format.specs.Verdict.{judgeRecords};
 ghost use Rattle.hash_words.specs.Words.{TableFor};
 ghost use Rattle.tally.specs.Settled.{Room};
-ghost use Rattle.judge.specs.Follow.{running, Judged};
+ghost use Rattle.judged.specs.Follow.{running, Judged};
 
 // The records of a block, up to the first event. `table` says that the seeds are the house seeds.
 pub fn judge_records(

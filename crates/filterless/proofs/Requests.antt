@@ -27,8 +27,8 @@ use Rattle.rules.proofs.Filter.{both-same}
 use Rattle.rules.proofs.Places.{places-within}
 use Rattle.rules.proofs.Memory.{taken-memory, turned-long, activated-long, activated-memory}
 use Rattle.rules.proofs.Step.{opened-rules}
-use Rattle.rules.proofs.Regular.{in-force-regular}
-use Rattle.rules.proofs.Fits as fits
+use Rattle.assurances.proofs.InForce.{in-force-regular}
+use Rattle.assurances.proofs.Fits as fits
 use Rattle.decision.specs.Numbers.{decideFrom, passiveEstimate, viewOf}
 use Rattle.decision.proofs.Views.{decide-view}
 use Rattle.state.specs.Ready.{WithinWidest, Bounds, Ready}

@@ -5,7 +5,7 @@ use head::Head;
 use rules::Answer;
 use rules::Decision;
 use rules::Setting;
-use state::Turned;
+use state_clock::Turned;
 ghost use mathlib.Core.Path.{_≡_};
 ghost use Prim.Native.Nat.{_%_, _^_, _≤_, _<_};
 ghost use lib.ListN.{length, getD};
@@ -17,12 +17,6 @@ ghost use Rattle.rules.specs.Quota.{indexCounter, quotaEven};
 ghost use Rattle.rules.specs.Calls.{oneLess};
 ghost use Rattle.state.specs.Ready.{Bounds, Ready};
 ghost use Rattle.filterless.specs.DecisionBy.{decisionBy};
-
-// The estimates of a row in the active and in the other filter.
-pub struct Estimates {
-    pub active: u64,
-    pub other: u64,
-}
 
 // The decision on a request for a row with these estimates in the active and in the other filter. e is the epoch of the last tick, stored the bank's
 // cell of the head.
@@ -43,7 +37,7 @@ pub fn decide_by(
     requires { ⌜ Ready s h (now ticks) (now rows) (now threads) bank thread × (e ≡ epoch s (h .last)) × (stored ≡ getD (h .bank) bank 0) ⌝ }
     ensures { λ r. ⌜ r ≡ decisionBy s active other h (now (ticks .entry)) (now (rows .entry)) (now (threads .entry)) bank thread row ⌝ }
 {
-    let v = state::look::look(
+    let v = state_view::look(
         s,
         h,
         stored,
@@ -71,7 +65,7 @@ pub fn done(s: Setting, h: Head, threads: &mut [u32], tick: u64, bank: u64, thre
     requires { ⌜ Bounds s × (threadsUsed s ≤ length (now threads)) × (bank < s .banks) × (thread < s .threads) × (1 ≤ getD (now threads) (threadCell s bank thread 2) 0) × (h .last ≤ tick) ⌝ }
     ensures { λ r. ⌜ (r .head ≡ movedHead h tick) × (now (threads .exit) ≡ oneLess s bank thread (turnedThreads (threadsUsed s) (epoch s (h .last)) (epoch s tick) (now (threads .entry)))) × (r .from ≡ epoch s (h .last)) × (r .to ≡ epoch s tick) × (r .from < 2 ^ 63) ⌝ }
 {
-    let x = state::turn(s, h, threads, tick);
+    let x = state_clock::turn(s, h, threads, tick);
     thread_counters::finish(threads, s, bank, thread);
     x
 }

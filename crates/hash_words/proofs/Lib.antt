@@ -4,3 +4,4 @@ pub mod House
 pub mod Bytes
 pub mod Words
 pub mod Arms
+pub mod Places

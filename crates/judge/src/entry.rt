@@ -17,7 +17,7 @@ ghost use Rattle.rules.specs.State.{state};
 ghost use Rattle.log_format.specs.Verdict.{judgeRecord};
 ghost use Rattle.hash_words.specs.Words.{TableFor};
 ghost use Rattle.tally.specs.Settled.{Room};
-ghost use Rattle.judge.specs.Follow.{running, Judged};
+ghost use Rattle.judged.specs.Follow.{running, Judged};
 
 // A record of a request.
 fn judge_request(

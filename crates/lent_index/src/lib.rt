@@ -59,7 +59,7 @@ pub fn index(
         };
     }
     let s = setting::load(setting);
-    let x = state::turn(s, load_head(&*head), threads, tick);
+    let x = state_clock::turn(s, load_head(&*head), threads, tick);
     let moved = x.head;
     let y = filterless::index(s, &*threads, bank, thread, x.to);
     store_clock(moved, head);

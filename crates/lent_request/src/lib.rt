@@ -1,6 +1,6 @@
 // What a request does with the caller's memory before and after its filters, for the limits of any width: it tests what was lent, and stores the answer.
 // No function here knows the width of a filter counter.
-use answers::out_words;
+use answer_numbers::out_words;
 use head::Head;
 use house_seeds::difference;
 use refusal::call_refusal;

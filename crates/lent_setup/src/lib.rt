@@ -52,7 +52,7 @@ pub fn setup(
         return Cleared { code, used: 0 };
     }
     let s = setting::load(setting);
-    store_head(state::fresh(s, ticks, rows, threads), head);
+    store_head(state_setup::fresh(s, ticks, rows, threads), head);
     Cleared {
         code: 0,
         used: (s.banks * 2048) as usize,

@@ -1,6 +1,8 @@
 // The encoder, for C and for Rattle alike: block 0 from a setting and seeds, records put into a block, the block sealed.
 // A call that is refused gives a number and leaves the block as it was.
 use log_bytes::tests::and;
+use log_fits::record_fits;
+use log_fits::setting_fits;
 use log_format::Entry;
 use log_frame::frame;
 use log_start::put_mark;
@@ -9,22 +11,9 @@ use log_start::put_setting;
 use log_write::put_record;
 use setting_words::is_known;
 ghost use mathlib.Core.Path.{_≡_};
-ghost use Prim.Native.Nat.{_^_};
-ghost use lib.Dec.{ltb};
-ghost use lib.ListN.{getD};
-ghost use Rattle.rules.specs.Cells.{every};
-ghost use Rattle.log_format.specs.Encode.{written, recordFits, recordWritten, sealWritten, startWritten};
+ghost use Rattle.log_format.specs.Encode.{written, recordWritten, sealWritten, startWritten};
 
 // ---- records
-
-// Whether the format can hold the record at place k.
-fn record_fits(k: u64, e: Entry) -> bool
-    ensures { λ r. ⌜ r ≡ recordFits k e ⌝ }
-{
-    let place = and(k < 20, e.bank < 256);
-    let who = and(place, e.thread < 256);
-    and(and(who, e.kind <= 1), e.answer <= 4)
-}
 
 // Puts a record into a block, at place 0 to 19. 13 for what the format cannot hold.
 // It rules out: a writer that loses the wait tick, and one that cuts a bank to a byte.
@@ -74,17 +63,6 @@ pub extern "C" fn throttle_log_seal(block: &mut [u8; 512], number: u64, count: u
 }
 
 // ---- block 0
-
-// Each of the nine numbers before the mark fits 32 bits.
-fn setting_fits(setting: &[u64; 10]) -> bool
-    ensures { λ r. ⌜ r ≡ every 9 (λ i. ltb (getD (now (setting .entry)) i 0) (2 ^ 32)) ⌝ }
-{
-    let mut ok = true;
-    for i in 0..9 {
-        ok = and(ok, setting[i] < 4294967296);
-    }
-    ok
-}
 
 // Writes block 0. 1 for a field that does not fit 32 bits, a mark that no profile has, or other than 64 seeds; whether the setting is accepted is not asked.
 // It rules out: a writer that numbers the block 1, one that writes the seeds over the setting, and one that leaves the mark out.

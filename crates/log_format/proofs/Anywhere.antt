@@ -11,7 +11,7 @@ use Rattle.rules.specs.Calls.{Reply, setupRefusal, activations}
 use Rattle.rules.specs.Claims.{UsedFlying}
 use Rattle.rules.proofs.Accept.{set-up}
 use Rattle.rules.proofs.Sound.{fresh-sound}
-use Rattle.rules.proofs.Used.{fresh-used, same-replies}
+use Rattle.assurances.proofs.Used.{fresh-used, same-replies}
 use Rattle.log_format.specs.declared.Entry.{Entry}
 use Rattle.log_format.specs.Verdict.{agrees, judged, memory}
 use Rattle.log_format.specs.Claims.{callsOf, recordsOf, settingOfLog, seedsOfLog, rulesSay, rulesSayIn, Decided, OnlyIfAnywhere, WheneverAnywhere}

@@ -7,7 +7,7 @@ ghost use Rattle.rules.specs.Setting.{settingOf};
 ghost use Rattle.rules.specs.Policy.{limits01, limits02};
 ghost use Rattle.plan_delays.specs.Delays.{withThreshold};
 ghost use Rattle.plan_delays.specs.Answer.{delaysOf};
-ghost use Rattle.plan_interval.specs.Served.{Served};
+ghost use Rattle.plan_ends.specs.Served.{Served};
 ghost use Rattle.plan_costs.specs.Costs.{widthOf};
 ghost use Rattle.spans.specs.Spans.{spanOf};
 ghost use Rattle.plan.specs.Plan.{hasDelay, Last, left, leaves, leavesSpan};

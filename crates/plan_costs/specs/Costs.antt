@@ -5,7 +5,7 @@ use Rattle.rules.specs.declared.Setting.{Setting}
 use Rattle.rules.specs.Setting.{historyLength, rowBound}
 use Rattle.rules.specs.State.{countersUsed, threadsUsed}
 use Rattle.rules.specs.Policy.{limits01, limits02}
-use Rattle.plan_interval.specs.Served.{Served}
+use Rattle.plan_ends.specs.Served.{Served}
 use Rattle.plan_costs.specs.declared.Width.{Width}
 use Rattle.plan_costs.specs.declared.Cost.{Cost}
 

@@ -1,14 +1,17 @@
 // The delays tD that a setting is accepted with, from the least to the greatest, or the refusal that stands in the way.
-// The functions take the limits of a width of the counters, and those of the profile that the setting names.
-// The definitions that the contracts cite are in specs/ and in the crate `plan_delays`, with the statements of what they mean.
+// The functions take the limits of a width of the counters. The definitions that the contracts cite are in the crates `plan_ends` and `plan_delays`, with
+// the statements of what they mean.
 use house_seeds::difference;
 use plan_delays::Plan;
+use plan_ends::delays_within;
+use plan_ends::greatest_delay;
+use plan_ends::smallest_delay;
 ghost use mathlib.Core.Path.{_≡_};
-ghost use Prim.Native.Nat.{_-_, _*_, _^_, _≤_, _<_, min, max};
+ghost use Prim.Native.Nat.{_-_, _*_, _^_, _≤_, _<_, max};
 ghost use Rattle.rules.specs.Answers.{refusalNumber};
 ghost use Rattle.plan_delays.specs.Delays.{withDelay, withThreshold, delayRefusal};
-ghost use Rattle.plan_delays.specs.Answer.{smallestDelay, leastDelay, greatestDelay, delaysWithin, delaysAbove, delaysOf};
-ghost use Rattle.plan_interval.specs.Served.{Served};
+ghost use Rattle.plan_delays.specs.Answer.{delaysAbove, delaysOf};
+ghost use Rattle.plan_ends.specs.Served.{Served};
 
 // The setting with another delay.
 pub fn with_delay(s: rules::Setting, td: u64) -> rules::Setting
@@ -42,48 +45,6 @@ fn greater(a: u64, b: u64) -> u64
     ensures { λ r. ⌜ r ≡ max a b ⌝ }
 {
     if a < b { b } else { a }
-}
-
-fn smaller(a: u64, b: u64) -> u64
-    ensures { λ r. ⌜ r ≡ min a b ⌝ }
-{
-    if a < b { a } else { b }
-}
-
-// The smallest delay with B at most L.
-fn smallest_delay(s: rules::Setting) -> u64
-    requires { ⌜ (1 ≤ s .w) × (s .w ≤ 2 ^ 30) × (2 * s .n * s .trc ≤ s .w - 1) × (2 * s .n < s .l) × (s .n ≤ 2 ^ 20) ⌝ }
-    ensures { λ r. ⌜ r ≡ smallestDelay s ⌝ }
-{
-    let free = 2 * s.n;
-    (s.w - 1 - free * s.trc) / (s.l - free) + 1
-}
-
-// The greatest delay that is at most the epoch and needs no more history places than the limits allow.
-fn greatest_delay(m: rules::Limits, s: rules::Setting) -> u64
-    requires { ⌜ Served m × (s .tfaw ≤ 65535) ⌝ }
-    ensures { λ r. ⌜ r ≡ greatestDelay m s ⌝ }
-{
-    smaller(s.w / 2, m.history / 4 * s.tfaw)
-}
-
-// The delays that the setting's profile accepts of those from least to greatest, or 16 where it accepts none of them.
-fn delays_within(m: rules::Limits, s: rules::Setting, least: u64, greatest: u64) -> Plan
-    requires { ⌜ (s .tfaw ≤ 65535) × (least ≡ leastDelay s) × (greatest ≡ greatestDelay m s) ⌝ }
-    ensures { λ r. ⌜ r ≡ delaysWithin m s ⌝ }
-{
-    let own = setting::profile(s.profile);
-    let last = smaller(greatest, own.history / 4 * s.tfaw);
-    if own.banks < s.banks {
-        return Plan::Nothing { refusal: 16 };
-    }
-    if last < least {
-        return Plan::Nothing { refusal: 16 };
-    }
-    Plan::Between {
-        least,
-        greatest: last,
-    }
 }
 
 // The delays of a setting whose other fields are in range, with room for two bursts in the window and L above 2N.

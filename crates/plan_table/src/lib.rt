@@ -8,7 +8,7 @@ use plan_text::print_nanoseconds;
 use plan_text::print_places;
 use plan_text::print_timing;
 ghost use Prim.Native.Nat.{_^_, _≤_};
-ghost use Rattle.plan_interval.specs.Served.{Served};
+ghost use Rattle.plan_ends.specs.Served.{Served};
 ghost use Rattle.plan_costs.specs.Costs.{ServedWidth};
 
 fn print_head(width: Width, s: rules::Setting) {

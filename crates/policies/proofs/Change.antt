@@ -11,7 +11,7 @@ use Rattle.rules.specs.State.{State, fresh}
 use Rattle.rules.specs.Quota.{quotaDown, quotaEven, inFlightHere, inFlightTotal}
 use Rattle.rules.specs.Policy.{Policy, document01, narrow}
 use Rattle.rules.specs.Calls.{Reply, refused, answered, finished, shown, Outcome, step, replies, after, activations}
-use Rattle.rules.specs.Claims.{withLimits}
+use Rattle.assurances.specs.Claims.{withLimits}
 use Rattle.log_format.specs.declared.Entry.{Entry}
 use Rattle.log_format.specs.Contents.{callOf}
 use Rattle.log_format.specs.Verdict.{agrees, judged, claims, memory, verdict}

@@ -17,7 +17,7 @@ use Rattle.rules.specs.Hash.{places}
 use Rattle.rules.specs.Policy.{Policy}
 use Rattle.rules.specs.Decision.{decide, activated, openingsLeft, answerOf}
 use Rattle.rules.specs.Calls.{Call, request, done, index, refused, answered, Outcome, afterDecision, unlessRefused, requested, reported, indexShown, performed, refusalOf, step, replies, after}
-use Rattle.rules.specs.Claims.{withLimits}
+use Rattle.assurances.specs.Claims.{withLimits}
 use Rattle.rules.proofs.Decisions.{same-decision}
 use Rattle.log_format.specs.declared.Entry.{Entry}
 use Rattle.log_format.specs.Contents.{callOf}

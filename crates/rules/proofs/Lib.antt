@@ -23,14 +23,9 @@ pub mod Sound
 pub mod Rounding
 pub mod Sums
 pub mod Regular
-pub mod Fits
-pub mod First
 pub mod Least
 pub mod WaitRow
 pub mod WaitFilter
 pub mod Threshold
 pub mod Wait
-pub mod Used
-pub mod Rest
-pub mod Later
 pub mod Theorems

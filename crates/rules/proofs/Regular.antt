@@ -11,8 +11,8 @@ use Rattle.rules.specs.Setting.{indexScale}
 use Rattle.rules.specs.Quota.{quotaEven, inFlightTotal}
 use Rattle.rules.specs.Policy.{inForce}
 use Rattle.rules.specs.Tested.{Accepted}
-use Rattle.rules.specs.Claims.{Regular, QuotaRounds, SumsBanks, UsedFlying}
-use Rattle.rules.proofs.Sums.{total-none, total-own, total-used}
+use Rattle.rules.specs.Claims.{QuotaRounds, SumsBanks, UsedFlying}
+use Rattle.rules.proofs.Sums.{total-used}
 use Rattle.rules.proofs.Accept.{scale-pos}
 use Rattle.rules.proofs.Rounding.{rounds-near, rounds-most, rounds-whole}
 
@@ -29,21 +29,12 @@ unfolding quotaEven
 quota-full s pos = let h : indexScale s - min 0 (indexScale s) ≡ indexScale s = omega arith in rw h (rounds-whole (indexScale s) (s .q) pos)
 
 -- an accepted setting's full scale is not 0
-scaled : {m : Limits} {s : Setting} {seeds : List ℕ} → Accepted m s seeds → 1 ≤ indexScale s
+pub scaled : {m : Limits} {s : Setting} {seeds : List ℕ} → Accepted m s seeds → 1 ≤ indexScale s
 scaled {s = s} ok = omega (arith, scale-pos ok)
 
 pub in-force-rounds : (m : Limits) → QuotaRounds (inForce m)
 unfolding quotaEven
 in-force-rounds m s seeds ok c = rounds-near (s .q * (indexScale s - min c (indexScale s))) (indexScale s) (scaled ok)
-
-pub in-force-regular : (m : Limits) → Regular (inForce m)
-in-force-regular m =
-    record {
-      quotaMost = λ s seeds ok c. omega (arith, quota-most s c (scaled ok), ok .ranges .q-high);
-      quotaFirst = λ s seeds ok. omega (arith, quota-full s (scaled ok), ok .ranges .q-low);
-      noneFlying = λ s threads bank thread bh th z. total-none s threads bank thread th z;
-      ownFlying = λ s threads bank thread bh th. total-own s threads bank thread bh;
-    }
 
 pub in-force-used-flying : (m : Limits) → UsedFlying (inForce m)
 in-force-used-flying m s threads other bank thread bh th same = total-used s threads bank thread other th same

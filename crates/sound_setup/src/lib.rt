@@ -47,7 +47,7 @@ pub fn setup(
         };
     }
     filter_turn::clear(counters, (s.banks * 2048) as usize);
-    let head = state::fresh(s, ticks, rows, threads);
+    let head = state_setup::fresh(s, ticks, rows, threads);
     Started {
         code: 0,
         table,

@@ -13,8 +13,8 @@ ghost use Rattle.widths.specs.ChangeOver.{changedOver, changeOver};
 ghost use Rattle.interface.specs.Left.{left, found, leaves};
 
 // For callers in Rattle that own their memory: set-up, request and done without the test of the whole history, and the numbers of an answer.
-pub use answers::answer_number;
-pub use answers::answer_wait;
+pub use answer_numbers::answer_number;
+pub use answer_numbers::answer_wait;
 pub use sound::done;
 pub use sound::request;
 pub use sound::setup;
@@ -33,18 +33,7 @@ pub extern "C" fn throttle_setup(
 ) -> u32
     ensures { λ r. ⌜ left r [] (now (head .exit)) (now (counters .exit)) (now (ticks .exit)) (now (rows .exit)) (now (threads .exit)) ≡ leaves (setup limits01 (settingOf (now (setting .entry))) (now (seeds .entry)) (found (now (head .entry)) (now (counters .entry)) (now (ticks .entry)) (now (rows .entry)) (now (threads .entry)))) [] (now (head .entry)) ⌝ }
 {
-    let cleared = lent_setup::setup(
-        narrow_limits(),
-        setting,
-        seeds,
-        head,
-        counters.len(),
-        ticks,
-        rows,
-        threads,
-    );
-    filter_turn::clear(counters, cleared.used);
-    cleared.code
+    narrow_lent::setup(setting, seeds, head, counters, ticks, rows, threads)
 }
 
 // A request for a row: out gets the answer's number, the wait tick and the openings left.
@@ -102,21 +91,18 @@ pub extern "C" fn throttle_done(
 ) -> u32
     ensures { λ r. ⌜ left r [] (now (head .exit)) (now (counters .exit)) (now (ticks .exit)) (now (rows .exit)) (now (threads .exit)) ≡ leaves (step narrow (settingOf (now (setting .entry))) (now (seeds .entry)) (found (now (head .entry)) (now (counters .entry)) (now (ticks .entry)) (now (rows .entry)) (now (threads .entry))) (done tick bank thread)) [] (now (head .entry)) ⌝ }
 {
-    let clocked = lent_done::done(
-        narrow_limits(),
+    narrow_lent::done(
         setting,
         seeds,
         head,
-        counters.len(),
-        &*ticks,
-        &*rows,
+        counters,
+        ticks,
+        rows,
         threads,
         tick,
         bank,
         thread,
-    );
-    filter_turn::turn(counters, clocked.banks, clocked.from, clocked.to);
-    clocked.code
+    )
 }
 
 // The RowHammer likelihood index of a thread in a bank: out gets c, D and the quota.
@@ -137,22 +123,19 @@ pub extern "C" fn throttle_index(
 ) -> u32
     ensures { λ r. ⌜ left r (now (out .exit)) (now (head .exit)) (now (counters .exit)) (now (ticks .exit)) (now (rows .exit)) (now (threads .exit)) ≡ leaves (step narrow (settingOf (now (setting .entry))) (now (seeds .entry)) (found (now (head .entry)) (now (counters .entry)) (now (ticks .entry)) (now (rows .entry)) (now (threads .entry))) (index tick bank thread)) (now (out .entry)) (now (head .entry)) ⌝ }
 {
-    let reading = lent_index::index(
-        narrow_limits(),
+    narrow_lent::index(
         setting,
         seeds,
         head,
-        counters.len(),
-        &*ticks,
-        &*rows,
+        counters,
+        ticks,
+        rows,
         threads,
         tick,
         bank,
         thread,
         out,
-    );
-    filter_turn::turn(counters, reading.banks, reading.from, reading.to);
-    reading.code
+    )
 }
 
 // Set-up at the new width: N to 2^20, H to 32,768.
@@ -169,18 +152,7 @@ pub extern "C" fn throttle_wide_setup(
 ) -> u32
     ensures { λ r. ⌜ left r [] (now (head .exit)) (now (counters .exit)) (now (ticks .exit)) (now (rows .exit)) (now (threads .exit)) ≡ leaves (setup limits02 (settingOf (now (setting .entry))) (now (seeds .entry)) (found (now (head .entry)) (now (counters .entry)) (now (ticks .entry)) (now (rows .entry)) (now (threads .entry)))) [] (now (head .entry)) ⌝ }
 {
-    let cleared = lent_setup::setup(
-        wide_limits(),
-        setting,
-        seeds,
-        head,
-        counters.len(),
-        ticks,
-        rows,
-        threads,
-    );
-    wide_turn::clear(counters, cleared.used);
-    cleared.code
+    wide_lent::setup(setting, seeds, head, counters, ticks, rows, threads)
 }
 
 // A request at the new width.
@@ -237,21 +209,18 @@ pub extern "C" fn throttle_wide_done(
 ) -> u32
     ensures { λ r. ⌜ left r [] (now (head .exit)) (now (counters .exit)) (now (ticks .exit)) (now (rows .exit)) (now (threads .exit)) ≡ leaves (step wide (settingOf (now (setting .entry))) (now (seeds .entry)) (found (now (head .entry)) (now (counters .entry)) (now (ticks .entry)) (now (rows .entry)) (now (threads .entry))) (done tick bank thread)) [] (now (head .entry)) ⌝ }
 {
-    let clocked = lent_done::done(
-        wide_limits(),
+    wide_lent::done(
         setting,
         seeds,
         head,
-        counters.len(),
-        &*ticks,
-        &*rows,
+        counters,
+        ticks,
+        rows,
         threads,
         tick,
         bank,
         thread,
-    );
-    wide_turn::turn(counters, clocked.banks, clocked.from, clocked.to);
-    clocked.code
+    )
 }
 
 // The RowHammer likelihood index of a thread in a bank, at the new width.
@@ -272,22 +241,19 @@ pub extern "C" fn throttle_wide_index(
 ) -> u32
     ensures { λ r. ⌜ left r (now (out .exit)) (now (head .exit)) (now (counters .exit)) (now (ticks .exit)) (now (rows .exit)) (now (threads .exit)) ≡ leaves (step wide (settingOf (now (setting .entry))) (now (seeds .entry)) (found (now (head .entry)) (now (counters .entry)) (now (ticks .entry)) (now (rows .entry)) (now (threads .entry))) (index tick bank thread)) (now (out .entry)) (now (head .entry)) ⌝ }
 {
-    let reading = lent_index::index(
-        wide_limits(),
+    wide_lent::index(
         setting,
         seeds,
         head,
-        counters.len(),
-        &*ticks,
-        &*rows,
+        counters,
+        ticks,
+        rows,
         threads,
         tick,
         bank,
         thread,
         out,
-    );
-    wide_turn::turn(counters, reading.banks, reading.from, reading.to);
-    reading.code
+    )
 }
 
 // The change-over of a saved state with 16-bit counters to 32-bit ones: the used part of the new counters becomes the old counters, as numbers.

@@ -1,5 +1,5 @@
 // What an activation adds to the two counting Bloom filters of its bank, with 32-bit counters (document 02, a), and the row's estimate after it. The
-// definitions and the laws are those of the 16-bit filters (crate `filter_count`).
+// definitions and the laws are those of the 16-bit filters (crates `filter_raise` and `filter_count`).
 use wide_filter::least;
 ghost use mathlib.Core.Path.{_≡_};
 ghost use mathlib.Core.List.{map};
@@ -7,7 +7,7 @@ ghost use Prim.Native.Nat.{_+_, _*_, _<_, _≤_};
 ghost use lib.ListN.{length};
 ghost use Rattle.rules.specs.State.{counterCell};
 ghost use Rattle.rules.specs.Filter.{Within, two, estimate, raised, counted};
-ghost use Rattle.filter_count.specs.Changes.{raisedAt};
+ghost use Rattle.filter_raise.specs.Changes.{raisedAt};
 
 // A counter with 1 more, if it is below n.
 fn raise(x: u32, n: u32) -> u32

@@ -16,13 +16,14 @@ use Rattle.rules.specs.State.{State, countersUsed, threadsUsed, fresh}
 use Rattle.rules.specs.Policy.{Policy, limits01, limits02, narrow, wide}
 use Rattle.rules.specs.Tested.{Long}
 use Rattle.rules.specs.Calls.{Call, finished, outcome, setup, setupRefusal, step, replies, after}
-use Rattle.rules.specs.Claims.{SameUsed, SameFrom}
+use Rattle.assurances.specs.Claims.{SameUsed, SameFrom}
 use Rattle.rules.proofs.Memory.{fresh-long}
 use Rattle.rules.proofs.Step.{unless-taken}
 use Rattle.rules.proofs.Sound.{long-not-short}
-use Rattle.rules.proofs.Used.{fresh-used}
-use Rattle.rules.proofs.Rest.{then-from}
+use Rattle.assurances.proofs.Used.{fresh-used}
+use Rattle.assurances.proofs.Rest.{then-from}
 use Rattle.rules.proofs.Theorems.{theorems as rules}
+use Rattle.assurances.proofs.Theorems.{theorems as assured}
 use Rattle.widths.specs.ChangeOver.{changeOverRefusal, changedState}
 use Rattle.widths.specs.Claims.{SameLeft, AnswersAsBefore, SetUpAsBefore}
 use Rattle.widths.proofs.Limits.{old-accepted}
@@ -89,9 +90,9 @@ module _ (s : Setting) (seeds : List ℕ) (e : settingRefusal limits01 s seeds �
   pub step-same : (a b : State) → SameButRest s a b → (c : Call)
       → (step wide s seeds b c .reply ≡ step narrow s seeds a c .reply) × SameButRest s (step narrow s seeds a c .state) (step wide s seeds b c .state)
   step-same a b t c =
-      let same = rules .sameReplies narrow (rules .inForceUsedFlying limits01) limits02 s seeds e (old-accepted s seeds e) a b (t .used) (c ∷ []) in
-      let ra = rules .restKept narrow .call s seeds a c in
-      let rb = rules .restKept wide .call s seeds b c in
+      let same = assured .sameReplies narrow (rules .inForceUsedFlying limits01) limits02 s seeds e (old-accepted s seeds e) a b (t .used) (c ∷ []) in
+      let ra = assured .restKept narrow .call s seeds a c in
+      let rb = assured .restKept wide .call s seeds b c in
       let u = same .1 in
       let replied = same .0 in (
         cc,
@@ -127,7 +128,7 @@ run-rest : (p : Policy) (s : Setting) (seeds : List ℕ) (first : List ℕ) (cs 
 run-rest p s seeds first [] st h = h
 run-rest p s seeds first (c ∷ cs) st h =
     let next = step p s seeds st c .state in
-    run-rest p s seeds first cs next (then-from (countersUsed s) first (st .counters) (next .counters) h (rules .restKept p .call s seeds st c .counters))
+    run-rest p s seeds first cs next (then-from (countersUsed s) first (st .counters) (next .counters) h (assured .restKept p .call s seeds st c .counters))
 
 -- ---- the claims
 
@@ -156,5 +157,5 @@ set-up-as-before s seeds old new e cs =
     let b = after wide s seeds (changedState s seeds old new) cs in
     let up = setup limits02 s seeds b .state in
     let same = setup-same s seeds (taken s seeds old new e .setting) (after narrow s seeds old cs) b (over-run s seeds old new e cs .1) in
-    let rest = then-from (countersUsed s) new (b .counters) (up .counters) (over-rest s seeds old new cs) (rules .restKept wide .setup s seeds b .counters) in
+    let rest = then-from (countersUsed s) new (b .counters) (up .counters) (over-rest s seeds old new cs) (assured .restKept wide .setup s seeds b .counters) in
     (same .0, same .1, same-left s new _ up (same .2) rest)

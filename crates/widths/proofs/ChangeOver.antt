@@ -17,12 +17,12 @@ use Rattle.rules.specs.History.{memoryOk}
 use Rattle.rules.specs.Policy.{limits01, narrow}
 use Rattle.rules.specs.Tested.{Long, Sound}
 use Rattle.rules.specs.Calls.{Call, setupRefusal, step, after}
-use Rattle.rules.specs.Claims.{SameFrom, Fits}
+use Rattle.assurances.specs.Claims.{SameFrom, Fits}
 use Rattle.rules.proofs.Tests.{holds, fails, is-true, is-false, or-true, not-or}
 use Rattle.rules.proofs.Cells.{length-mapCells, getD-mapCells, getD-kept, all-mapFrom}
 use Rattle.rules.proofs.Accept.{number-none, not-zero, orElse-none, refuse-none, first-refusal, long-enough, set-up}
 use Rattle.rules.proofs.Memory.{memory-ok}
-use Rattle.rules.proofs.Fits.{below-at}
+use Rattle.assurances.proofs.Fits.{below-at}
 use Rattle.rules.proofs.Sound.{long-not-short, step-sound, fresh-sound}
 use Rattle.widths.specs.ChangeOver.{changeOverRefusal, copiedCell, copied, takenOver, ChangedOver, changedOver, changeOver}
 use Rattle.widths.specs.Claims.{Refuses, Leaves, FitsOver, TakenInList}

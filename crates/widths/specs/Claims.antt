@@ -15,7 +15,8 @@ use Rattle.rules.specs.History.{memoryOk}
 use Rattle.rules.specs.Policy.{limits01, limits02, narrow, wide}
 use Rattle.rules.specs.Tested.{Long}
 use Rattle.rules.specs.Calls.{Call, refused, finished, setup, setupRefusal, replies, after, Activation, activations, timesActivated}
-use Rattle.rules.specs.Claims.{spanBound, Spans, Demand3, SameFrom, Fits}
+use Rattle.rules.specs.Claims.{spanBound, Spans, Demand3}
+use Rattle.assurances.specs.Claims.{SameFrom, Fits}
 use Rattle.rules.specs.Samples.{house, tableOne}
 use Rattle.widths.specs.ChangeOver.{changeOverRefusal, changeOver, changedState}
 

@@ -1,5 +1,5 @@
 // How the head lies in the caller's 22 words.
-use answers::answer_number;
+use answer_numbers::answer_number;
 use head::Head;
 use rules::Answer;
 ghost use mathlib.Core.Path.{_≡_};

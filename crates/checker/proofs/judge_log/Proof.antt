@@ -6,7 +6,7 @@ use native.Mathlib.Omega.{arith}
 use lib.Dec.{eqb}
 use lib.ListN.{length}
 use Rattle.log_format.specs.Verdict.{Running, memory}
-use Rattle.judge.specs.Follow.{reportOf}
+use Rattle.judged.specs.Follow.{reportOf}
 use Rattle.checker_reading.specs.Blocks.{readSoFar, Carried}
 use Rattle.checker.proofs.Logs.{start-memory, Through, through-none, through-more, through-over, through-all, of-bytes}
 use borrow.Author.Needs.{needs}

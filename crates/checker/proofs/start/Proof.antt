@@ -3,7 +3,7 @@ use mathlib.Core.Path.{refl}
 use mathlib.Core.Bool.{false}
 use Rattle.rules.specs.State.{freshHead}
 use Rattle.log_format.specs.Verdict.{unread}
-use Rattle.checker_records.proofs.Steps.{not-both}
+use Rattle.judged.proofs.Steps.{not-both}
 use Rattle.checker.proofs.Logs.{start-ready}
 use Rattle.checker.proofs.start.Statement.{statement}
 use Rattle.checker.proofs.start.Tie as tie

@@ -3,7 +3,7 @@ use mathlib.Core.Path.{_≡_, ap₂, _∙_}
 use Prim.Native.Nat.{min}
 use native.Mathlib.Omega.{arith}
 use lib.ListN.{length, length-set}
-use Rattle.filter_count.proofs.Counting.{row-raised, row-estimate}
+use Rattle.filter_raise.proofs.Raising.{row-raised, row-estimate}
 use borrow.Author.Needs.{needs}
 use Rattle.wide_count.proofs.count_in.Statement.{statement}
 use Rattle.wide_count.proofs.count_in.Tie as tie
