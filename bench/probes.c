@@ -21,6 +21,8 @@ PLAIN_DECLARE(native);
 
 enum { LIBRARY, O2, O3, NATIVE, BUILDS };
 enum { MOST_ROUNDS = 1000, SHORT_LISTS = 200000, LONGEST_SHORT = 4 };
+/* Lists of fewer pairs are asked about several times in a round. */
+enum { FEW_PAIRS = 100000, CALLS_OF_FEW = 100 };
 
 static const char *const names[BUILDS] = {"library", "gcc -O2", "gcc -O3", "-march=native"};
 static const char *const ratios[BUILDS] = {"", "/ -O2", "/ -O3", "/ native"};
@@ -176,20 +178,35 @@ static void print_pair(size_t build, size_t other)
     printf(" %7.2f %6.2f", build == other ? least[0] : least[0] / least[1], values[rounds / 2]);
 }
 
-/* Measures the lists as they are, and prints a line; all builds must answer this. */
+/* The time of a build for each pair; it must answer this every time. */
+static double time_build(size_t build, double pairs, const struct answer *wanted)
+{
+    size_t calls = pairs < FEW_PAIRS ? CALLS_OF_FEW : 1;
+    double begin = nanoseconds();
+    for (size_t i = 0; i < calls; i++) {
+        struct answer a = ask(build);
+        must_be(&a, wanted);
+    }
+    return (nanoseconds() - begin) / pairs / (double)calls;
+}
+
+/*
+ * Measures the lists as they are, and prints a line; all builds must answer this.
+ * A first round is not counted: a part of the lists may then be in a cache, from
+ * what was measured before, and the build that comes first would have the use of it.
+ */
 static void measure(const char *name, uint64_t code, uint64_t fits, uint64_t offset)
 {
     struct answer wanted = {code, {fits, offset}};
     double longer = (double)(first.count > second.count ? first.count : second.count);
     if (code != 0)
         wanted.out[0] = wanted.out[1] = UINT64_C(0x5a5a5a5a5a5a5a5a);
+    for (size_t b = 0; b < BUILDS; b++)
+        time_build(b, longer, &wanted);
     for (size_t r = 0; r < rounds; r++)
         for (size_t k = 0; k < BUILDS; k++) {
             size_t b = (k + r) % BUILDS;
-            double begin = nanoseconds();
-            struct answer a = ask(b);
-            spent[b][r] = (nanoseconds() - begin) / longer;
-            must_be(&a, &wanted);
+            spent[b][r] = time_build(b, longer, &wanted);
         }
     printf("%-27s %9" PRIu64, name, (uint64_t)longer);
     for (size_t b = 0; b < BUILDS; b++)
