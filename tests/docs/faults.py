@@ -45,7 +45,7 @@ FAULTS = [
     ("docs/c-interface.md", added("`rt staticlib none`"), "which is no crate"),
     ("docs/c-interface.md", added("`throttle_none(1)`"), "no header has throttle_none"),
     ("docs/what-is-proved.md", added("`NoSuchTheorem`"), "no specs file states NoSuchTheorem"),
-    ("crates/rules/specs/Claims.antt", lambda old: old.replace("WaitIsLater", "WaitIsLate"), "no specs file states WaitIsLater"),
+    ("crates/assurances/specs/Claims.antt", lambda old: old.replace("WaitIsLater", "WaitIsLate"), "no specs file states WaitIsLater"),
     ("docs/what-is-proved.md", added("`no_such_function`"), "no_such_function is neither"),
     ("docs/reading-demand-3.md", added("`NoSuchName`"), "no source has NoSuchName"),
     ("README.md", added("x" * 141), "141 characters"),
