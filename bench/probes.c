@@ -261,7 +261,7 @@ static size_t number(const char *word, unsigned long most)
     char *end;
     unsigned long x = strtoul(word, &end, 10);
     if (*word < '0' || *word > '9' || *end != '\0' || x > most)
-        fail("PAIRS and ROUNDS must be whole numbers");
+        fail("PAIRS and ROUNDS must be whole numbers, ROUNDS at most 1000");
     return x;
 }
 

@@ -38,7 +38,6 @@ copy_tree() {
     need_archive plan
     need_archive probes
     need_archive hash_rows
-    need_archive probes
     work=$(mktemp -d "$source_tree/target/commands.XXXXXX")
     trap 'rm -rf "$work"' EXIT
     tree=$work/tree

@@ -17,8 +17,8 @@
 #define FAULTS(X)                                                                            \
     X(bank_ignored) X(row_ignored) X(low_byte_of_row) X(first_minus_second) X(of_32_bits)    \
     X(without_sign) X(last_pair_left_out) X(length_ignored) X(longer_second_fits)            \
-    X(empty_first_fits) X(first_row_left_out) X(jitter_one_more) X(jitter_below_only)        \
-    X(jitter_one_less) X(first_tick_left_out) X(from_999) X(from_1001) X(greatest)           \
+    X(empty_first_fits) X(first_row_left_out) X(jitter_one_more) X(strict_above)             \
+    X(strict_below) X(first_tick_left_out) X(from_999) X(from_1001) X(greatest)              \
     X(to_1001) X(to_999) X(empty_lists_fit_with_0) X(empty_lists_do_not_fit)
 
 #define AS_NUMBER(name) name,
@@ -104,8 +104,8 @@ static int are_alike(const struct side *a, const struct side *b)
 
 static int fits(const struct side *a, const struct side *b, int64_t d, int64_t jitter)
 {
-    int64_t above = jitter + is_planted(jitter_one_more) - is_planted(jitter_below_only);
-    int64_t below = jitter + is_planted(jitter_one_more) - is_planted(jitter_one_less);
+    int64_t above = jitter + is_planted(jitter_one_more) - is_planted(strict_above);
+    int64_t below = jitter + is_planted(jitter_one_more) - is_planted(strict_below);
     for (uint64_t i = is_planted(first_tick_left_out); i < pairs(a, b); i++)
         if (difference(a, b, i) > d + above || difference(a, b, i) < d - below)
             return 0;

@@ -19,7 +19,7 @@ held p e =
     let t = not-or (ltb (length (p .ticks)) (p .count)) (ltb (length (p .rows)) (p .count)) (fails (tooShort p) e) in
     (nltb→le (length (p .ticks)) (p .count) (t .0), nltb→le (length (p .rows)) (p .count) (t .1))
 
-pub not-short : (p : Probe) → Held p → tooShort p ≡ false
+not-short : (p : Probe) → Held p → tooShort p ≡ false
 not-short p h = ap₂ _||_ (le-ltb (length (p .ticks)) (p .count) (h .0)) (le-ltb (length (p .rows)) (p .count) (h .1))
 
 on-time : (p : Probe) → lateTick p ≡ false → OnTime p
@@ -28,7 +28,7 @@ on-time p e i h =
     let t = not-not (every (p .count) (onTime (p .ticks))) (fails (not (every (p .count) (onTime (p .ticks)))) e) in
     ltb→lt (tickAt p i) (2 ^ 62) (every-at (p .count) (onTime (p .ticks)) t i h)
 
-pub not-late : (p : Probe) → OnTime p → lateTick p ≡ false
+not-late : (p : Probe) → OnTime p → lateTick p ≡ false
 unfolding lateTick
 not-late p h =
     ap not

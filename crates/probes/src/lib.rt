@@ -5,7 +5,6 @@ use probe_pairs::Records;
 ghost use mathlib.Core.Path.{_≡_};
 ghost use mathlib.Core.Bool.{_||_, cond};
 ghost use Prim.Native.Nat.{_-_, _^_, _≤_};
-ghost use lib.ListN.{length};
 ghost use Rattle.probe_fit.specs.Probes.{lent, tooShort, offset, decided, verdictOf, codeOf, outOf};
 ghost use Rattle.probe_fit.specs.Closed.{closed};
 ghost use mir.Syntax.{w64};

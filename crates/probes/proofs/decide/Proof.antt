@@ -2,7 +2,6 @@
 use mathlib.Core.Path.{_≡_, sym, ap, _∙_}
 use mathlib.Core.Bool.{true}
 use Rattle.probe_fit.specs.Probes.{decided}
-use Rattle.probe_fit.specs.Closed.{closed}
 use Rattle.probe_fit.proofs.Answers.{decided-fit}
 use Rattle.probes.proofs.Laws.{far, wide, fit, by-closed, not-alike}
 use borrow.Author.Needs.{needs}

@@ -23,9 +23,9 @@ macro_rules! faults_of_probes {
     ProbesJitterDoubled,
     /// The jitter is taken as the whole width, half of it on each side.
     ProbesJitterHalved,
-    /// A difference may be as far below d as it likes.
+    /// A difference may be any number below d.
     ProbesAboveOnly,
-    /// A difference may be as far above d as it likes.
+    /// A difference may be any number above d.
     ProbesBelowOnly,
     /// The difference is the first tick minus the second.
     ProbesFirstMinusSecond,
