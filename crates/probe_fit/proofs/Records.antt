@@ -6,10 +6,11 @@ use native.Mathlib.Omega.{arith}
 use lib.Dec.{T, leb, ltb, eqb, eqb→eq, eqb-refl}
 use lib.IntN.{ℤ, subℕ, natAbs, _-ℤ_}
 use Rattle.rules.specs.Cells.{every}
-use Rattle.rules.proofs.Tests.{and-i, and-l, and-r, is-false, holds, same-test, every-same}
+use Rattle.rules.proofs.Tests.{and-i, and-l, and-r, holds, same-test, every-same}
 use Rattle.probe_fit.specs.declared.Verdict.the-variants.{Refused}
 use Rattle.probe_fit.specs.Probes.{Probe, wordAt, bankAt, rowAt, onTime, tooShort, lateTick, probesRefusal, sameRow, near, fits, offset, leastOffset, decided, verdictOf}
 use Rattle.probe_fit.specs.Claims.{SameRecords, OnlyRecords, SameWord}
+use Rattle.probe_fit.proofs.Refusals.{not-short}
 use Rattle.probe_fit.proofs.Found.{search-same}
 
 -- ---- words
@@ -60,7 +61,7 @@ same-late x z a =
     ap not (every-same (x .count) (onTime (z .ticks)) (onTime (x .ticks)) (λ i h. ap (λ t. ltb t (2 ^ 62)) (a .ticks i h)) ∙ ap (λ n. every n (onTime (z .ticks))) (a .counts))
 
 same-short : (x z : Probe) → SameRecords x z → tooShort x ≡ tooShort z
-same-short x z a = is-false (tooShort x) (a .here) ∙ sym (is-false (tooShort z) (a .there))
+same-short x z a = not-short x (a .here) ∙ sym (not-short z (a .there))
 
 pub only-records : OnlyRecords
 unfolding verdictOf probesRefusal

@@ -19,7 +19,7 @@ held p e =
     let t = not-or (ltb (length (p .ticks)) (p .count)) (ltb (length (p .rows)) (p .count)) (fails (tooShort p) e) in
     (nltb→le (length (p .ticks)) (p .count) (t .0), nltb→le (length (p .rows)) (p .count) (t .1))
 
-not-short : (p : Probe) → Held p → tooShort p ≡ false
+pub not-short : (p : Probe) → Held p → tooShort p ≡ false
 not-short p h = ap₂ _||_ (le-ltb (length (p .ticks)) (p .count) (h .0)) (le-ltb (length (p .rows)) (p .count) (h .1))
 
 on-time : (p : Probe) → lateTick p ≡ false → OnTime p

@@ -11,7 +11,7 @@ use lib.Signed.{leZ}
 use mir.Syntax.{w64}
 use mir.Val.{ofZ, toZ}
 use Rattle.rules.specs.Cells.{every}
-use Rattle.probe_fit.specs.Probes.{Probe, tickAt, wordAt, tooShort, probesRefusal, sameRow, near, fits, leastOffset, verdictOf, codeOf, outOf}
+use Rattle.probe_fit.specs.Probes.{Probe, tickAt, wordAt, probesRefusal, sameRow, near, fits, leastOffset, verdictOf, codeOf, outOf}
 use Rattle.probe_fit.specs.Closed.{alike, greatest, least, closed}
 
 -- ---- refusals
@@ -96,8 +96,8 @@ EmptyFit =
 
 -- the same records, in buffers that hold them
 pub record SameRecords (x z : Probe) : Type 0 where
-  pub here : T (not (tooShort x))
-  pub there : T (not (tooShort z))
+  pub here : Held x
+  pub there : Held z
   pub counts : x .count ≡ z .count
   pub ticks : (i : ℕ) → i < x .count → tickAt x i ≡ tickAt z i
   pub words : (i : ℕ) → i < x .count → wordAt x i ≡ wordAt z i
