@@ -1,3 +1,6 @@
 pub mod Words
 pub mod Passes
 pub mod Chosen
+pub mod Results
+pub mod Samples
+pub mod Theorems

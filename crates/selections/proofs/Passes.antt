@@ -159,12 +159,12 @@ module _ (differs : List Bool → Bool) where
   abbrev pub Ended : List Bool → List Bool → Type 0
   Ended sel r = (k : ℕ) × (k + kept r ≤ kept sel) × Repeated differs k sel r
 
-  pub passes-end : (n : ℕ) (sel : List Bool) → kept sel ≤ n → Ended sel (passes differs n sel)
-  passes-end zero sel h = (0, omega arith, stop {sel = sel} (omega (arith, pass-kept sel)))
-  passes-end (suc n) sel h =
+  pub ended : (n : ℕ) (sel : List Bool) → kept sel ≤ n → Ended sel (passes differs n sel)
+  ended zero sel h = (0, omega arith, stop {sel = sel} (omega (arith, pass-kept sel)))
+  ended (suc n) sel h =
       pass-cases sel
       (λ e. subst (Ended sel) (sym (passes-stop (suc n) sel e)) (0, omega arith, stop {sel = sel} e))
-      (λ l. subst (Ended sel) (sym (passes-again n sel l)) (further l (passes-end n (pass differs sel) (omega arith))))
+      (λ l. subst (Ended sel) (sym (passes-again n sel l)) (further l (ended n (pass differs sel) (omega arith))))
     where
       further : kept (pass differs sel) < kept sel → Ended (pass differs sel) (passes differs n (pass differs sel)) → Ended sel (passes differs n (pass differs sel))
       further l (k, few, r) = (suc k, omega arith, again l r)
@@ -186,7 +186,7 @@ module _ (differs : List Bool → Bool) where
 
   -- two bounds that are enough
   pub enough : (n m : ℕ) (sel : List Bool) → kept sel ≤ n → kept sel ≤ m → passes differs m sel ≡ passes differs n sel
-  enough n m sel a b = let t = passes-end n sel a in repeated-passes (t .2) m (omega (arith, repeated-few (t .2)))
+  enough n m sel a b = let t = ended n sel a in repeated-passes (t .2) m (omega (arith, repeated-few (t .2)))
 
 -- ---- for a loop over passes
 

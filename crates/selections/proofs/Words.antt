@@ -5,12 +5,13 @@ use mathlib.Core.Bool.{Bool, true, false}
 use Prim.Native.Nat.{ℕ, zero, suc, _-_, _*_, _/_, _%_, _^_, _≤_, _<_}
 use native.Mathlib.Omega.{arith}
 use native.Mathlib.Decide.{ℕ-discrete}
-use native.Mathlib.Nat.{pow-suc, pow-succ', div-div-eq-div-mul, div-mul-le-self, mul-le-mul-right}
+use native.Mathlib.Nat.{zero-div, pow-suc, pow-succ', div-div-eq-div-mul, div-mul-le-self, mul-le-mul-right}
 use lib.Dec.{eqb}
 use lib.ListN.{length, replicate}
 use lib.Pow.{shl-exact}
 use borrow.Author.Tests.{eq-eqb, ne-eqb}
 use Rattle.selections.specs.Selections.{stays, without, word, bits}
+use Rattle.selections.specs.Claims.{WordBit, WordBelow, WordAlone, WordSome}
 
 -- ---- one bit of a number
 
@@ -93,3 +94,29 @@ bits-word (false ∷ sel) =
     let low : 2 * word sel % 2 ≡ 0 = omega arith in
     let half : 2 * word sel / 2 ≡ word sel = omega arith in
     ap₂ (λ b m. eqb b 1 ∷ bits (length sel) m) low half ∙ ap (λ l. false ∷ l) (bits-word sel)
+
+-- ---- the claims
+
+pub word-below : WordBelow
+word-below [] = omega arith
+word-below (true ∷ sel) = let ih = word-below sel in omega (arith, pow-suc 2 (length sel))
+word-below (false ∷ sel) = let ih = word-below sel in omega (arith, pow-suc 2 (length sel))
+
+pub word-bit : WordBit
+word-bit [] i = ap (λ x. eqb (x % 2) 1) (zero-div (2 ^ i))
+word-bit (true ∷ sel) zero = let e : suc (2 * word sel) / 2 ^ 0 % 2 ≡ 1 = omega arith in ap (λ b. eqb b 1) e
+word-bit (false ∷ sel) zero = let e : 2 * word sel / 2 ^ 0 % 2 ≡ 0 = omega arith in ap (λ b. eqb b 1) e
+word-bit (true ∷ sel) (suc i) =
+    let half : suc (2 * word sel) / 2 ≡ word sel = omega arith in
+    ap (λ x. eqb (x % 2) 1) (half-bit (suc (2 * word sel)) i ∙ ap (λ x. x / 2 ^ i) half) ∙ word-bit sel i
+word-bit (false ∷ sel) (suc i) =
+    let half : 2 * word sel / 2 ≡ word sel = omega arith in
+    ap (λ x. eqb (x % 2) 1) (half-bit (2 * word sel) i ∙ ap (λ x. x / 2 ^ i) half) ∙ word-bit sel i
+
+pub word-alone : WordAlone
+word-alone a b l w = sym (bits-word a) ∙ ap₂ bits l w ∙ bits-word b
+
+pub word-some : WordSome
+word-some [] h = absurd (omega arith)
+word-some (true ∷ sel) h = omega arith
+word-some (false ∷ sel) h = let ih = word-some sel h in omega arith

@@ -1,1 +1,3 @@
 pub mod Selections
+pub mod Claims
+pub mod Samples
