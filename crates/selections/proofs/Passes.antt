@@ -1,5 +1,5 @@
 -- Tries, passes, and the passes until one removes none, for any test.
-use mathlib.Core.Path.{_≡_, refl, sym, ap, _∙_, subst}
+use mathlib.Core.Path.{_≡_, refl, sym, ap, ap₂, _∙_, subst}
 use mathlib.Core.List.{List, [], _∷_}
 use mathlib.Core.Bool.{Bool, true, false, not, _&&_, cond}
 use Prim.Native.Nat.{ℕ, zero, suc, _+_, _≤_, _<_}
@@ -57,6 +57,19 @@ module _ (differs : List Bool → Bool) where
 
   try-none : (i : ℕ) (sel : List Bool) → Unmoved i sel (tried differs i sel)
   try-none i sel = try-cases (Unmoved i sel) i sel (λ a b k. absurd (omega (arith, kept-without sel i a))) (λ n k. (refl, n))
+
+  -- a try, by what code asks: does the record stay, and do the others differ without it
+  pub tried-gone : (i : ℕ) (sel : List Bool) → stays sel i ≡ false → tried differs i sel ≡ sel
+  unfolding tried
+  tried-gone i sel a = ap (λ b. cond (b && differs (without sel i)) (without sel i) sel) a
+
+  pub tried-out : (i : ℕ) (sel : List Bool) → stays sel i ≡ true → differs (without sel i) ≡ true → tried differs i sel ≡ without sel i
+  unfolding tried
+  tried-out i sel a d = ap₂ (λ b c. cond (b && c) (without sel i) sel) a d
+
+  pub tried-needed : (i : ℕ) (sel : List Bool) → stays sel i ≡ true → differs (without sel i) ≡ false → tried differs i sel ≡ sel
+  unfolding tried
+  tried-needed i sel a d = ap₂ (λ b c. cond (b && c) (without sel i) sel) a d
 
   -- ---- tries of some records
 
@@ -135,10 +148,10 @@ module _ (differs : List Bool → Bool) where
 
   passes-stop : (n : ℕ) (sel : List Bool) → kept (pass differs sel) ≡ kept sel → passes differs n sel ≡ sel
   passes-stop zero sel e = refl
-  passes-stop (suc n) sel e = rw (eq-eqb (kept (pass differs sel)) (kept sel) e, passes)
+  passes-stop (suc n) sel e = ap (λ b. cond b sel (passes differs n (pass differs sel))) (eq-eqb (kept (pass differs sel)) (kept sel) e)
 
   passes-again : (n : ℕ) (sel : List Bool) → kept (pass differs sel) < kept sel → passes differs (suc n) sel ≡ passes differs n (pass differs sel)
-  passes-again n sel l = rw (ne-eqb (kept (pass differs sel)) (kept sel) (λ e. omega arith), passes)
+  passes-again n sel l = ap (λ b. cond b sel (passes differs n (pass differs sel))) (ne-eqb (kept (pass differs sel)) (kept sel) (λ e. omega arith))
 
   -- a pass removes none, or it removes a record
   pass-cases : {P : Type 0} (sel : List Bool) → (kept (pass differs sel) ≡ kept sel → P) → (kept (pass differs sel) < kept sel → P) → P
