@@ -77,7 +77,7 @@ module _ (p : Policy) where
   blocks-first bytes b (suc n) h = let e : suc n - 1 ≡ n = omega arith in rw e
 
   -- the verdict by block 0 and the later blocks
-  by-start : (bytes : List ℕ) → length bytes % 512 ≡ 0 → 1 ≤ length bytes / 512
+  pub by-start : (bytes : List ℕ) → length bytes % 512 ≡ 0 → 1 ≤ length bytes / 512
       → verdict p bytes ≡ verdictOf (judgeBlock p (unread (p .limits)) (blockAt bytes 0)) (λ (y : Running). judgeBlocks p y (laterOf bytes) true)
   unfolding verdict judgeBlocks
   by-start bytes w n = rw (blocks-first bytes 0 (length bytes / 512) n, eq-eqb (length bytes % 512) 0 w)

@@ -17,7 +17,7 @@ use Rattle.log_format.specs.Verdict.{agrees, judged, memory}
 use Rattle.log_format.specs.Claims.{callsOf, recordsOf, settingOfLog, seedsOfLog, rulesSay, rulesSayIn, Decided, OnlyIfAnywhere, WheneverAnywhere}
 use Rattle.log_format.proofs.Agrees.{setup-accepts, accepts-setup, only-if, whenever}
 
-same-said : (p : Policy) → UsedFlying p → (s : Setting) (seeds : List ℕ) (before : State) → setupRefusal (p .limits) s seeds before ≡ none
+pub same-said : (p : Policy) → UsedFlying p → (s : Setting) (seeds : List ℕ) (before : State) → setupRefusal (p .limits) s seeds before ≡ none
     → (es : List Entry) → rulesSayIn p before s seeds es ≡ rulesSay p s seeds es
 same-said p fly s seeds before e es =
     let m = p .limits in

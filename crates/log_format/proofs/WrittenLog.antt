@@ -10,7 +10,8 @@ use lib.ListN.{length, getD, take, drop, length-append, length-take, length-drop
 use lib.Seq.{sets, length-sets, ext-getD, take-at, drop-at}
 use borrow.Author.Tests.{lt-ltb, le-leb}
 use Rattle.rules.specs.Cells.{All}
-use Rattle.rules.specs.Setting.{settingOf, known}
+use Rattle.rules.specs.Answers.{none}
+use Rattle.rules.specs.Setting.{settingOf, known, settingRefusal}
 use Rattle.rules.specs.declared.Limits.{Limits}
 use Rattle.rules.specs.Policy.{Policy}
 use Rattle.rules.proofs.Places.{seed-small, seeds-long}
@@ -22,7 +23,7 @@ use Rattle.log_format.specs.Refusals.{sound}
 use Rattle.log_format.specs.Contents.{countIn, markIn, settingIn, halves, seedsIn}
 use Rattle.log_format.specs.Blocks.{startLaidOut, inTurn, laidOut, blockRefusal}
 use Rattle.log_format.specs.Encode.{numbersBytes, putStart, startBlock, recordsBlock, laterBlocks, joined, logBytesOver}
-use Rattle.log_format.specs.Claims.{settingOfLog, seedsOfLog, laterOf, entriesOf, recordsOf, SoundFrom, Faithful, Writable, WrittenAgrees}
+use Rattle.log_format.specs.Claims.{settingOfLog, seedsOfLog, laterOf, entriesOf, recordsOf, SoundFrom, WellFormed, Writable, WrittenAgrees}
 use Rattle.log_format.proofs.Numbers.{length-halves, getD-halves}
 use Rattle.log_format.proofs.ReadBack.{little-same, little-one, little-below, little-put, zeros-all, numbers-read}
 use Rattle.log_format.proofs.Framed.{Frame, frame-of}
@@ -192,10 +193,19 @@ blocks-of p b (t ∷ ss) lp a =
 
 -- ---- the log
 
-pub written-agrees : (p : Policy) → WrittenAgrees p
+-- a log that holds these records under this setting and these seeds
+pub record Holding (words seedWords : List ℕ) (es : List Entry) (bytes : List ℕ) : Type 0 where
+  pub wellFormed : WellFormed bytes
+  pub setting : settingOfLog bytes ≡ settingOf words
+  pub seeds : seedsOfLog bytes ≡ seedWords
+  pub records : recordsOf bytes ≡ es
+
+pub written-log : (m : Limits) (old : ℕ → List ℕ) (setting seeds : List ℕ) (es : List Entry) → ((b : ℕ) → length (old b) ≡ 512)
+    → settingRefusal m (settingOf setting) seeds ≡ none → All Writable es → length es ≤ 20 * (2 ^ 32 - 1)
+    → Holding setting seeds es (logBytesOver old setting seeds es)
 unfolding logBytesOver
-written-agrees p old setting seeds es len e w few d =
-    let ok = accepted (p .limits) (settingOf setting) seeds e in
+written-log m old setting seeds es len e w few =
+    let ok = accepted m (settingOf setting) seeds e in
     let t = startBlock (old 0) setting seeds in
     let ss = laterBlocks old (length es) 1 es in
     let bytes = joined (t ∷ ss) in
@@ -205,13 +215,21 @@ written-agrees p old setting seeds es len e w few d =
     let n : length bytes / 512 - 1 ≡ length ss = omega arith in
     let b0 : blockAt bytes 0 ≡ t = block-of [] t (joined ss) 0 refl lt in
     let bs : laterOf bytes ≡ ss = ap (λ (k : ℕ). blocksFrom bytes 1 k) n ∙ blocks-of t 1 ss (omega arith) (f .lengths) in
-    let es-is : recordsOf bytes ≡ es = ap entriesOf bs ∙ f .records in
-    let set-is : settingOfLog bytes ≡ settingOf setting = ap settingIn b0 ∙ start-setting (old 0) setting seeds (len 0) (p .limits) ok in
-    let seeds-is : seedsOfLog bytes ≡ seeds = ap seedsIn b0 ∙ start-seeds (old 0) setting seeds (len 0) (p .limits) ok in
-    let faithful : Faithful p bytes =
     record {
-      wellFormed = record { whole = omega arith; some = omega arith; start = rw b0 (start-sound (old 0) setting seeds (len 0) (p .limits) ok); later = rw bs (f .blocks) };
-      accepted = rw (set-is, seeds-is) e;
-      decided = rw (es-is, set-is, seeds-is) d;
-    } in
-    whenever p bytes faithful ∙ rw (es-is, set-is, seeds-is)
+      wellFormed = record { whole = omega arith; some = omega arith; start = rw b0 (start-sound (old 0) setting seeds (len 0) m ok); later = rw bs (f .blocks) };
+      setting = ap settingIn b0 ∙ start-setting (old 0) setting seeds (len 0) m ok;
+      seeds = ap seedsIn b0 ∙ start-seeds (old 0) setting seeds (len 0) m ok;
+      records = ap entriesOf bs ∙ f .records;
+    }
+
+pub written-agrees : (p : Policy) → WrittenAgrees p
+written-agrees p old setting seeds es len e w few d =
+    let h = written-log (p .limits) old setting seeds es len e w few in
+    let bytes = logBytesOver old setting seeds es in
+    whenever p bytes
+    (record {
+      wellFormed = h .wellFormed;
+      accepted = rw (h .setting, h .seeds) e;
+      decided = rw (h .records, h .setting, h .seeds) d;
+    })
+    ∙ rw (h .records, h .setting, h .seeds)

@@ -1,0 +1,5 @@
+pub mod Runs
+pub mod Verdicts
+pub mod Anywhere
+pub mod Blocks
+pub mod Places
