@@ -4,16 +4,15 @@ use checker_block::judge_block;
 use checker_end::at_end;
 use checker_reading::Reading;
 use head::Head;
+use log_block::block_at;
 use rules::Setting;
 use tally::Progress;
 use tally::Report;
 ghost use mathlib.Core.Path.{_≡_};
 ghost use mathlib.Core.List.{List};
-ghost use Prim.Native.Nat.{ℕ, _+_, _*_, _≤_};
-ghost use lib.ListN.{length};
+ghost use Prim.Native.Nat.{ℕ};
 ghost use Rattle.rules.specs.State.{freshHead};
 ghost use Rattle.rules.specs.Policy.{limits01, narrow};
-ghost use Rattle.log_format.specs.Bytes.{blockAt};
 ghost use Rattle.log_format.specs.Verdict.{unread, verdict};
 ghost use Rattle.judged.specs.Follow.{progressOf, reportOf};
 ghost use Rattle.checker_reading.specs.Blocks.{readSoFar, Carried, Ready};
@@ -54,19 +53,6 @@ pub fn start() -> Reading
         table: false,
         head,
     }
-}
-
-// Block b of a log.
-fn block_at(bytes: &[u8], b: usize) -> [u8; 512]
-    requires { ⌜ 512 * b + 512 ≤ length (now bytes) ⌝ }
-    ensures { λ r. ⌜ r ≡ blockAt (now (bytes .entry)) b ⌝ }
-{
-    let at = 512 * b;
-    let mut block = [0u8; 512];
-    for i in 0..512 {
-        block[i] = bytes[at + i];
-    }
-    block
 }
 
 // The report of a log, for every list of bytes.

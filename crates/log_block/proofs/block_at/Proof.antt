@@ -3,10 +3,10 @@ use Prim.Native.Nat.{ℕ, _*_, _-_, _≤_}
 use mathlib.Core.Path.{_≡_}
 use native.Mathlib.Omega.{arith}
 use lib.ListN.{length-replicate}
-use Rattle.checker.proofs.Copy.{Copied, copied-none, copied-more, copied-all}
+use Rattle.log_block.proofs.Copy.{Copied, copied-none, copied-more, copied-all}
 use borrow.Author.Needs.{needs}
-use Rattle.checker.proofs.block_at.Statement.{statement}
-use Rattle.checker.proofs.block_at.Tie as tie
+use Rattle.log_block.proofs.block_at.Statement.{statement}
+use Rattle.log_block.proofs.block_at.Tie as tie
 
 abbrev Inv-loop : tie.InvT-loop
 Inv-loop bytes b at block₀ i₀ block i = (i ≤ 512) × Copied bytes at i block

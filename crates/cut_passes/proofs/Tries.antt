@@ -1,0 +1,63 @@
+-- Tries and passes over a number whose bits are a selection.
+use mathlib.Core.Path.{_≡_, refl, sym, ap, _∙_, subst}
+use mathlib.Core.List.{List}
+use mathlib.Core.Bool.{Bool, true, false}
+use Prim.Native.Nat.{ℕ, zero, suc, _+_, _-_, _*_, _/_, _%_, _^_, _≤_, _<_}
+use native.Mathlib.Omega.{arith}
+use native.Mathlib.Nat.{zero-add}
+use native.Mathlib.Numerals.{add-one}
+use lib.ListN.{length, replicate}
+use borrow.Author.Tests.{eq-eqb, ne-eqb}
+use Rattle.selections.specs.Selections.{stays, without, tried, triedFrom, pass, passes, cutDown, word, bits}
+use Rattle.selections.proofs.Words.{bits-length, bits-stays, bits-less, bits-all, word-bits, same-bits}
+use Rattle.selections.proofs.Passes.{tried-gone, tried-out, tried-needed, from-more, Settles, settles-start, settles-more, settles-end}
+
+module _ (test : List Bool → Bool) (n : ℕ) where
+  -- ---- one try
+
+  module _ (i m : ℕ) (h : i < n) where
+    pub try-gone : m / 2 ^ i % 2 ≡ 0 → bits n m ≡ tried test i (bits n m)
+    try-gone e = sym (tried-gone test i (bits n m) (bits-stays n m i h ∙ ne-eqb (m / 2 ^ i % 2) 1 (λ z. omega arith)))
+
+    module _ (some : m / 2 ^ i % 2 ≡ 0 → ⊥) where
+      here : m / 2 ^ i % 2 ≡ 1
+      here = omega (arith, some)
+
+      there : stays (bits n m) i ≡ true
+      there = bits-stays n m i h ∙ eq-eqb (m / 2 ^ i % 2) 1 here
+
+      pub try-out : test (bits n (m - 2 ^ i)) ≡ true → bits n (m - 2 ^ i) ≡ tried test i (bits n m)
+      try-out e = let l = bits-less n m i h here in l ∙ sym (tried-out test i (bits n m) there (ap test (sym l) ∙ e))
+
+      pub try-needed : test (bits n (m - 2 ^ i)) ≡ false → bits n m ≡ tried test i (bits n m)
+      try-needed e = sym (tried-needed test i (bits n m) there (ap test (sym (bits-less n m i h here)) ∙ e))
+
+  -- ---- a pass
+
+  -- after the tries of the first i records
+  pub from-none : (m : ℕ) → bits n m ≡ triedFrom test 0 0 (bits n m)
+  from-none m = refl
+
+  pub from-next : (m w r i : ℕ) → bits n w ≡ triedFrom test 0 i (bits n m) → bits n r ≡ tried test i (bits n w) → bits n r ≡ triedFrom test 0 (i + 1) (bits n m)
+  from-next m w r i e t =
+      t ∙ ap (tried test i) e ∙ ap (λ (k : ℕ). tried test k (triedFrom test 0 i (bits n m))) (sym (zero-add i)) ∙ sym (from-more test 0 i (bits n m))
+      ∙ ap (λ (k : ℕ). triedFrom test 0 k (bits n m)) (sym (add-one i))
+
+  pub from-all : (m w i : ℕ) → i ≡ n → bits n w ≡ triedFrom test 0 i (bits n m) → bits n w ≡ pass test (bits n m)
+  unfolding pass
+  from-all m w i k e = e ∙ ap (λ (j : ℕ). triedFrom test 0 j (bits n m)) (k ∙ sym (bits-length n m))
+
+  -- ---- the passes
+
+  pub start : (all : ℕ) → all ≡ 2 ^ n - 1 → Settles test n (bits n all)
+  start all e = subst (Settles test n) (sym (ap (bits n) e ∙ bits-all n)) (settles-start test n)
+
+  pub below : (all : ℕ) → all ≡ 2 ^ n - 1 → 1 ≤ 2 ^ n → all < 2 ^ n
+  below all e h = omega arith
+
+  module _ (m w : ℕ) (lm : m < 2 ^ n) (lw : w ≤ m) (s : Settles test n (bits n m)) (t : bits n w ≡ pass test (bits n m)) where
+    pub more : (w ≡ m → ⊥) → Settles test n (bits n w)
+    more d = subst (Settles test n) (sym t) (settles-more test n (bits n m) s (λ e. d (same-bits n w m (omega arith) lm (t ∙ e))))
+
+    pub done : w ≡ m → m ≡ word (cutDown test n)
+    done e = sym (word-bits n m lm) ∙ ap word (settles-end test n (bits n m) s (sym t ∙ ap (bits n) e))
