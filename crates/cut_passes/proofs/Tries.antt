@@ -7,10 +7,15 @@ use native.Mathlib.Omega.{arith}
 use native.Mathlib.Nat.{zero-add}
 use native.Mathlib.Numerals.{add-one}
 use lib.ListN.{length, replicate}
+use lib.Pow.{pow-pos}
 use borrow.Author.Tests.{eq-eqb, ne-eqb}
 use Rattle.selections.specs.Selections.{stays, without, tried, triedFrom, pass, passes, cutDown, word, bits}
 use Rattle.selections.proofs.Words.{bits-length, bits-stays, bits-less, bits-all, word-bits, same-bits}
 use Rattle.selections.proofs.Passes.{tried-gone, tried-out, tried-needed, from-more, Settles, settles-start, settles-more, settles-end}
+
+-- all n records are a number of n bits
+pub below : (n all : ℕ) → all ≡ 2 ^ n - 1 → all < 2 ^ n
+below n all e = omega (arith, pow-pos n)
 
 module _ (test : List Bool → Bool) (n : ℕ) where
   -- ---- one try
@@ -51,9 +56,6 @@ module _ (test : List Bool → Bool) (n : ℕ) where
 
   pub start : (all : ℕ) → all ≡ 2 ^ n - 1 → Settles test n (bits n all)
   start all e = subst (Settles test n) (sym (ap (bits n) e ∙ bits-all n)) (settles-start test n)
-
-  pub below : (all : ℕ) → all ≡ 2 ^ n - 1 → 1 ≤ 2 ^ n → all < 2 ^ n
-  below all e h = omega arith
 
   module _ (m w : ℕ) (lm : m < 2 ^ n) (lw : w ≤ m) (s : Settles test n (bits n m)) (t : bits n w ≡ pass test (bits n m)) where
     pub more : (w ≡ m → ⊥) → Settles test n (bits n w)

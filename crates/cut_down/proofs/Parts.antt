@@ -1,0 +1,58 @@
+-- The parts of the answer: a refusal of the log, 20, 21, or the selection.
+use mathlib.Core.Path.{_≡_, refl, sym, ap, _∙_}
+use mathlib.Core.List.{List, [], _∷_}
+use mathlib.Core.Bool.{Bool, true, false}
+use Prim.Native.Nat.{ℕ, _-_, _^_, _≤_, _<_}
+use native.Mathlib.Omega.{arith}
+use lib.ListN.{length, replicate}
+use borrow.Author.Tests.{lt-ltb, le-ltb, eq-eqb}
+use Rattle.rules.specs.Policy.{limits01, narrow}
+use Rattle.log_format.specs.Bytes.{blockAt}
+use Rattle.log_format.specs.Refusals.{logRefusalNumber}
+use Rattle.log_format.specs.Claims.{recordsOf, WellFormed}
+use Rattle.selections.specs.Selections.{chosen, cutDown, word, bits}
+use Rattle.selections.proofs.Words.{bits-all}
+use Rattle.selections.proofs.Chosen.{chosen-all}
+use Rattle.cut_verdict.specs.Cut.{logRefusal, differing, differsWith, Cut, refusedWith, keeps, cutOf, codeOf, outOf}
+use Rattle.cut_verdict.proofs.Blocks.{refused-not}
+
+-- what a call left that returned the code: both words
+abbrev pub Leaves : List ℕ → ℕ → List ℕ → List ℕ → Type 0
+Leaves bytes code before after = (code ≡ codeOf (cutOf narrow bytes)) × (after ≡ outOf (cutOf narrow bytes) before)
+
+by-cut : (bytes : List ℕ) (c : Cut) (before : List ℕ) → cutOf narrow bytes ≡ c → Leaves bytes (codeOf c) before (outOf c before)
+by-cut bytes c before e = (ap codeOf (sym e), ap (λ (d : Cut). outOf d before) (sym e))
+
+module _ (bytes before : List ℕ) (code : ℕ) (told : code ≡ logRefusalNumber (logRefusal limits01 bytes)) where
+  pub leaves-refused : (code ≡ 0 → ⊥) → Leaves bytes code before before
+  unfolding cutOf
+  leaves-refused n = by-cut bytes (refusedWith code) before (rw (← told, lt-ltb 0 code (omega arith)) refl)
+
+  module _ (z : code ≡ 0) (n : ℕ) (en : n ≡ length (recordsOf bytes)) where
+    none : logRefusalNumber (logRefusal limits01 bytes) ≡ 0
+    none = sym told ∙ z
+
+    pub well-formed : WellFormed bytes
+    well-formed = refused-not limits01 bytes none .0
+
+    pub leaves-many : 64 < n → Leaves bytes 20 before before
+    unfolding cutOf
+    leaves-many h = by-cut bytes (refusedWith 20) before (rw (none, ← en, lt-ltb 64 n h) refl)
+
+    module _ (few : n ≤ 64) (start : List ℕ) (copied : start ≡ blockAt bytes 0) (all : ℕ) (ea : all ≡ 2 ^ n - 1) (d : Bool) (said : d ≡ differing narrow start (chosen (bits n all) (recordsOf bytes))) where
+      -- all records differ or not
+      whole : d ≡ differing narrow (blockAt bytes 0) (recordsOf bytes)
+      whole =
+          said ∙ ap (λ (s : List ℕ). differing narrow s (chosen (bits n all) (recordsOf bytes))) copied
+          ∙ ap (λ (sel : List Bool). differing narrow (blockAt bytes 0) (chosen sel (recordsOf bytes))) (ap (bits n) ea ∙ bits-all n ∙ ap (λ (k : ℕ). replicate k true) en)
+          ∙ ap (differing narrow (blockAt bytes 0)) (chosen-all (recordsOf bytes))
+
+      pub leaves-same : d ≡ false → Leaves bytes 21 before before
+      unfolding cutOf
+      leaves-same e = by-cut bytes (refusedWith 21) before (rw (none, ← en, le-ltb 64 n few, sym whole ∙ e) refl)
+
+      pub leaves-kept : d ≡ true → (kept : ℕ) → kept ≡ word (cutDown (differsWith narrow bytes) n) → Leaves bytes 0 before (kept ∷ [])
+      unfolding cutOf
+      leaves-kept e kept ek =
+          let c = by-cut bytes (keeps (cutDown (differsWith narrow bytes) n)) before (rw (none, ← en, le-ltb 64 n few, sym whole ∙ e) refl) in
+          (c .0, rw ek (c .1))
