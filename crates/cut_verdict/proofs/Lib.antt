@@ -3,3 +3,7 @@ pub mod Verdicts
 pub mod Anywhere
 pub mod Blocks
 pub mod Places
+pub mod Codes
+pub mod Answers
+pub mod Logs
+pub mod Theorems

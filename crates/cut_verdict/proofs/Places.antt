@@ -1,5 +1,5 @@
 -- Where record i of a well-formed log stands: every block but the last has 20 records.
-use mathlib.Core.Path.{_≡_, refl, sym, ap, _∙_}
+use mathlib.Core.Path.{_≡_, sym, ap, _∙_}
 use mathlib.Core.List.{List, [], _∷_, _++_}
 use mathlib.Core.Bool.{Bool, true, false, _&&_, _||_}
 use Prim.Native.Nat.{ℕ, zero, suc, _+_, _-_, _*_, _/_, _%_, _≤_, _<_}
@@ -14,7 +14,7 @@ use Rattle.log_format.specs.Bytes.{little, zeros, blockAt, blocksFrom}
 use Rattle.log_format.specs.Refusals.{sound, logRefusalNumber}
 use Rattle.log_format.specs.Contents.{countIn, entryIn, entriesFrom, entriesIn}
 use Rattle.log_format.specs.Blocks.{recordsLaidOut, inTurn, laidOut, blockRefusal}
-use Rattle.log_format.specs.Claims.{entriesOf, recordsOf, laterOf, SoundFrom, WellFormed}
+use Rattle.log_format.specs.Claims.{entriesOf, recordsOf, SoundFrom, WellFormed}
 use Rattle.log_format.proofs.Judged.{length-entries}
 use Rattle.log_format.proofs.Steps.{sound-laid-out, later-count}
 

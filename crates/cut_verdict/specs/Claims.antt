@@ -2,9 +2,9 @@
 -- among them: document 02 does not ask for it, and it is not so (`notFewest` of the crate selections).
 use mathlib.Core.Path.{_≡_}
 use mathlib.Core.List.{List, [], _∷_, _++_}
-use mathlib.Core.Bool.{Bool, true, not, _&&_}
+use mathlib.Core.Bool.{Bool, true, not}
 use Prim.Native.Nat.{ℕ, suc, _+_, _/_, _%_, _^_, _≤_, _<_}
-use lib.Dec.{T, ltb, eqb}
+use lib.Dec.{T, eqb}
 use lib.ListN.{length, replicate}
 use Rattle.rules.specs.Answers.{none}
 use Rattle.rules.specs.Cells.{All}
@@ -16,7 +16,7 @@ use Rattle.log_format.specs.Refusals.{logRefusalNumber}
 use Rattle.log_format.specs.Verdict.{verdict}
 use Rattle.log_format.specs.Encode.{logBytesOver}
 use Rattle.log_format.specs.Claims.{settingOfLog, seedsOfLog, recordsOf, WellFormed, Writable}
-use Rattle.selections.specs.Selections.{kept, stays, chosen, Repeated, word, bits}
+use Rattle.selections.specs.Selections.{kept, stays, chosen, Repeated, bits}
 use Rattle.selections.specs.Claims.{InOrder}
 use Rattle.cut_verdict.specs.Cut.{logRefusal, isDiffers, differing, differsWith, cutOf, codeOf, outOf}
 
