@@ -15,7 +15,7 @@ use Rattle.log_format.specs.Verdict.{verdict}
 use Rattle.log_format.specs.Claims.{recordsOf}
 use Rattle.selections.specs.Selections.{cutDown}
 use Rattle.cut_verdict.specs.Cut.{logRefusal, isDiffers, differing, differsWith, Cut, refusedWith, keeps, cutOf, codeOf, outOf}
-use Rattle.cut_verdict.specs.Claims.{Readable, ReadableExactly, CheckerSays, CodesExactly, RefusedLeaves}
+use Rattle.cut_verdict.specs.Claims.{Readable, ReadableExactly, CodesExactly, RefusedLeaves}
 use Rattle.cut_verdict.proofs.Verdicts.{verdict-differs}
 use Rattle.cut_verdict.proofs.Blocks.{refused-not, not-refused}
 
@@ -25,9 +25,6 @@ module _ (p : Policy) where
     λ e. let h = refused-not (p .limits) bytes e in record { wellFormed = h .0; accepted = h .1 },
     λ r. ap logRefusalNumber (not-refused (p .limits) bytes (r .wellFormed) (r .accepted)),
   )
-
-  pub checker-says : CheckerSays p
-  checker-says bytes w = sym (verdict-differs p bytes w)
 
 module _ (p : Policy) (bytes : List ℕ) where
   -- ---- for code: what is left, test by test
@@ -94,7 +91,7 @@ codes-exactly p bytes =
     ok = readable-exactly p bytes .1
 
     says : Readable p bytes → differing p (blockAt bytes 0) (recordsOf bytes) ≡ isDiffers (verdict p bytes)
-    says r = checker-says p bytes (r .wellFormed)
+    says r = sym (verdict-differs p bytes (r .wellFormed))
 
 pub refused-leaves : (p : Policy) → RefusedLeaves p
 refused-leaves p bytes before n e = go (cutOf p bytes) e
