@@ -5,7 +5,7 @@ use mathlib.Core.Bool.{Bool, true, false, not, cond}
 use Prim.Native.Nat.{ℕ, _/_, _%_, _^_, _≤_}
 use native.Mathlib.Omega.{arith}
 use lib.Pow.{pow-mono}
-use lib.Dec.{eqb}
+use lib.Dec.{T, eqb}
 use lib.ListN.{length, getD, replicate}
 use Rattle.rules.specs.Answers.{refusalNumber}
 use Rattle.rules.specs.Policy.{Policy}
@@ -13,7 +13,7 @@ use Rattle.rules.specs.Calls.{setupRefusal}
 use Rattle.rules.proofs.Tests.{holds}
 use Rattle.log_format.specs.declared.Entry.{Entry}
 use Rattle.log_format.specs.Bytes.{blockAt}
-use Rattle.log_format.specs.Refusals.{model}
+use Rattle.log_format.specs.Refusals.{LogRefusal, model}
 use Rattle.log_format.specs.Contents.{settingIn, seedsIn}
 use Rattle.log_format.specs.Verdict.{refusedAfter, Running, over, on, andThen, judgeRecords, setUp, judgeStart, unread}
 use Rattle.log_format.specs.Claims.{recordsOf}
@@ -25,7 +25,7 @@ use Rattle.cut_verdict.specs.Cut.{judgement, saysDiffers, differing, dif
 use Rattle.cut_verdict.specs.Claims.{Answer, selectedBy, BitsSay, PassesEnd, OldOrder}
 use Rattle.cut_verdict.proofs.Codes.{cut-keeps, Kept, code-kept}
 
--- ---- no records do not differ
+-- ---- where no record stays, nothing differs
 
 chosen-few : {A : Type 0} (sel : List Bool) (rs : List A) → kept sel ≡ 0 → chosen sel rs ≡ []
 chosen-few [] rs e = refl
@@ -33,13 +33,23 @@ chosen-few (b ∷ sel) [] e = refl
 chosen-few (true ∷ sel) (r ∷ rs) e = absurd (omega arith)
 chosen-few (false ∷ sel) (r ∷ rs) e = chosen-few sel rs e
 
+-- set-up alone is refused, or has no event
+set-up-says : (b : Bool) (x : Running) (r : LogRefusal) → saysDiffers (andThen (cond b (on x) (over (refusedAfter r 0))) (λ (y : Running). on y)) ≡ false
+set-up-says true x r = refl
+set-up-says false x r = refl
+
 pub none-differ : (p : Policy) (start : List ℕ) → differing p start [] ≡ false
 unfolding differing judgement judgeStart judgeRecords
-none-differ p start = go (eqb (refusalNumber (setupRefusal (p .limits) (settingIn start) (seedsIn start) (unread (p .limits) .state))) 0)
-  where
-    go : (b : Bool) → saysDiffers (andThen (cond b (on (setUp (settingIn start) (seedsIn start) (unread (p .limits) .state))) (over (refusedAfter (model (setupRefusal (p .limits) (settingIn start) (seedsIn start) (unread (p .limits) .state))) 0))) (λ (x : Running). on x)) ≡ false
-    go true = refl
-    go false = refl
+none-differ p start =
+    let r = setupRefusal (p .limits) (settingIn start) (seedsIn start) (unread (p .limits) .state) in
+    set-up-says (eqb (refusalNumber r) 0) (setUp (settingIn start) (seedsIn start) (unread (p .limits) .state)) (model r)
+
+few-differ : (p : Policy) (bytes : List ℕ) (sel : List Bool) → kept sel ≡ 0 → T (not (differsWith p bytes sel))
+few-differ p bytes sel e = holds _ (ap (λ es. not (differing p (blockAt bytes 0) es)) (chosen-few sel (recordsOf bytes) e) ∙ ap not (none-differ p (blockAt bytes 0)))
+
+-- where all stay, the records of the log do or do not
+all-differ : (p : Policy) (bytes : List ℕ) → differsWith p bytes (replicate (length (recordsOf bytes)) true) ≡ differing p (blockAt bytes 0) (recordsOf bytes)
+all-differ p bytes = ap (differing p (blockAt bytes 0)) (chosen-all (recordsOf bytes))
 
 -- ---- the selection of an answer
 
@@ -75,9 +85,7 @@ bits-say p bytes m a =
     let s = selected p bytes m a in
     let n = length (recordsOf bytes) in
     let differs = differsWith p bytes in
-    let all : differs (replicate n true) ≡ true = ap (differing p (blockAt bytes 0)) (chosen-all (recordsOf bytes)) ∙ s .kept .differs in
-    let some : 1 ≤ word (cutDown differs n) =
-    answer-some differs n (λ sel e. holds _ (ap (λ es. not (differing p (blockAt bytes 0) es)) (chosen-few sel (recordsOf bytes) e) ∙ ap not (none-differ p (blockAt bytes 0)))) (holds _ all) in
+    let some = answer-some differs n (few-differ p bytes) (holds _ (all-differ p bytes ∙ s .kept .differs)) in
     let below = word-below (cutDown differs n) in
     let top : 2 ^ length (cutDown differs n) ≤ 2 ^ 64 = pow-mono {i = length (cutDown differs n)} {j = 64} (omega (arith, result-length differs n, s .kept .few)) in (
       λ i. rw (s .selection) (ap (λ k. eqb (k / 2 ^ i % 2) 1) (s .number) ∙ word-bit (cutDown differs n) i),

@@ -7,7 +7,7 @@ use native.Mathlib.Omega.{arith}
 use native.Mathlib.Nat.{pow-suc}
 use native.Mathlib.Numerals.{add-one}
 use lib.Dec.{T, leb, leb→le}
-use lib.ListN.{length, getD, take, drop}
+use lib.ListN.{length, getD, take, drop, replicate}
 use Rattle.rules.specs.declared.Setting.{Setting}
 use Rattle.rules.specs.Cells.{All, between, every}
 use Rattle.rules.specs.Setting.{settingOf}
@@ -119,10 +119,11 @@ unfolding settingOf
 words-of s = refl
 
 pub selections-written : (p : Policy) → SelectionsWritten p
-selections-written p bytes old sel r h few len =
-    let es = chosen sel (recordsOf bytes) in (
-      logBytesOver old (wordsOf (settingOfLog bytes)) (seedsOfLog bytes) es,
-      written p bytes old (wordsOf (settingOfLog bytes)) es r (words-of (settingOfLog bytes)) len
+selections-written p bytes sel r h few =
+    let es = chosen sel (recordsOf bytes) in
+    let zero-block : List ℕ = replicate 512 0 in (
+      logBytesOver (λ b. zero-block) (wordsOf (settingOfLog bytes)) (seedsOfLog bytes) es,
+      written p bytes (λ b. zero-block) (wordsOf (settingOfLog bytes)) es r (words-of (settingOfLog bytes)) (λ b. refl)
           (all-chosen Writable sel (recordsOf bytes) (records-writable bytes h (r .wellFormed)))
           (omega (arith, chosen-short sel (recordsOf bytes))),
     )

@@ -140,11 +140,10 @@ Written p =
     → ((b : ℕ) → length (old b) ≡ 512) → All Writable es → length es ≤ 64
     → LogOf bytes es (logBytesOver old setting (seedsOfLog bytes) es)
 
--- So there is one of every selection of a log's records.
+-- So there is one of every selection of the records of a log of bytes.
 abbrev pub SelectionsWritten : Policy → Type 0
 SelectionsWritten p =
-    (bytes : List ℕ) (old : ℕ → List ℕ) (sel : List Bool) → Readable p bytes → All (λ b. b < 256) bytes → length (recordsOf bytes) ≤ 64
-    → ((b : ℕ) → length (old b) ≡ 512)
+    (bytes : List ℕ) (sel : List Bool) → Readable p bytes → All (λ b. b < 256) bytes → length (recordsOf bytes) ≤ 64
     → (other : List ℕ) × LogOf bytes (chosen sel (recordsOf bytes)) other
 
 -- ---- all of it
