@@ -1,19 +1,16 @@
 -- Whether records differ does not depend on what the memory held before set-up.
-use mathlib.Core.Path.{_≡_, refl, ap}
+use mathlib.Core.Path.{_≡_}
 use mathlib.Core.List.{List}
-use mathlib.Core.Bool.{cond}
 use Prim.Native.Nat.{ℕ, _*_, _≤_}
 use native.Mathlib.Omega.{arith}
 use native.Mathlib.Decide.{ℕ-discrete}
 use native.Mathlib.Nat.{mul-le-mul}
-use lib.Dec.{eqb}
-use lib.ListN.{length}
 use borrow.Author.Tests.{ne-eqb}
 use Rattle.rules.specs.declared.Setting.{Setting}
 use Rattle.rules.specs.declared.Limits.{Limits}
 use Rattle.rules.specs.Answers.{none, refusalNumber}
 use Rattle.rules.specs.Setting.{settingRefusal}
-use Rattle.rules.specs.State.{State, fresh}
+use Rattle.rules.specs.State.{State}
 use Rattle.rules.specs.Policy.{Policy}
 use Rattle.rules.specs.Tested.{Long}
 use Rattle.rules.specs.Calls.{setupRefusal}

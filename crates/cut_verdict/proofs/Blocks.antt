@@ -8,7 +8,7 @@ use native.Mathlib.Decide.{ℕ-discrete}
 use native.Mathlib.Numerals.{add-one}
 use lib.Dec.{T, leb, eqb, eqb→eq}
 use lib.ListN.{length}
-use borrow.Author.Tests.{eq-eqb, ne-eqb, eqb-true, le-leb}
+use borrow.Author.Tests.{eq-eqb, ne-eqb, le-leb}
 use Rattle.rules.specs.declared.Limits.{Limits}
 use Rattle.rules.specs.Answers.{none, refusalNumber}
 use Rattle.rules.specs.Setting.{settingRefusal, known}
@@ -16,7 +16,7 @@ use Rattle.rules.proofs.Accept.{number-none}
 use Rattle.rules.proofs.Tests.{and-l, and-r, holds}
 use Rattle.log_format.specs.Bytes.{little, zeros, blockAt, blocksFrom}
 use Rattle.log_format.specs.Refusals.{LogRefusal, model, cut, sound, logRefusalNumber}
-use Rattle.log_format.specs.Contents.{countIn, markIn, settingIn, seedsIn}
+use Rattle.log_format.specs.Contents.{countIn, markIn}
 use Rattle.log_format.specs.Blocks.{startLaidOut, laidOut, blockRefusal}
 use Rattle.log_format.specs.Claims.{settingOfLog, seedsOfLog, laterOf, SoundFrom, WellFormed}
 use Rattle.log_format.proofs.Judged.{number-sound}

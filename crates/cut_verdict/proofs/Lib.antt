@@ -2,4 +2,10 @@ pub mod Runs
 pub mod Verdicts
 pub mod Anywhere
 pub mod Blocks
+pub mod Turns
 pub mod Places
+pub mod Codes
+pub mod Answers
+pub mod Logs
+pub mod Writable
+pub mod Theorems

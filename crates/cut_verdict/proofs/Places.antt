@@ -1,5 +1,5 @@
 -- Where record i of a well-formed log stands: every block but the last has 20 records.
-use mathlib.Core.Path.{_≡_, refl, sym, ap, _∙_}
+use mathlib.Core.Path.{_≡_, sym, ap, _∙_}
 use mathlib.Core.List.{List, [], _∷_, _++_}
 use mathlib.Core.Bool.{Bool, true, false, _&&_, _||_}
 use Prim.Native.Nat.{ℕ, zero, suc, _+_, _-_, _*_, _/_, _%_, _≤_, _<_}
@@ -14,24 +14,31 @@ use Rattle.log_format.specs.Bytes.{little, zeros, blockAt, blocksFrom}
 use Rattle.log_format.specs.Refusals.{sound, logRefusalNumber}
 use Rattle.log_format.specs.Contents.{countIn, entryIn, entriesFrom, entriesIn}
 use Rattle.log_format.specs.Blocks.{recordsLaidOut, inTurn, laidOut, blockRefusal}
-use Rattle.log_format.specs.Claims.{entriesOf, recordsOf, laterOf, SoundFrom, WellFormed}
+use Rattle.log_format.specs.Claims.{entriesOf, recordsOf, SoundFrom, WellFormed}
 use Rattle.log_format.proofs.Judged.{length-entries}
 use Rattle.log_format.proofs.Steps.{sound-laid-out, later-count}
 
 -- ---- a block before another one
 
--- a block after block 1 follows one of 20 records
+-- what a later block's layout asks for
+pub later-parts : (s : List ℕ) (index before : ℕ) → 1 ≤ index → blockRefusal s index before ≡ sound → T (inTurn index before) × T (recordsLaidOut s)
+unfolding laidOut
+later-parts s index before h e =
+    let n : index ≡ 0 → ⊥ = λ z. omega arith in
+    let t : T (eqb (little s 0 4) index && zeros s 5 3 && (inTurn index before && recordsLaidOut s)) =
+    holds _ (rw (ne-eqb index 0 n) at (sound-laid-out s index before (ap logRefusalNumber e))) in
+    let both = and-r (eqb (little s 0 4) index && zeros s 5 3) (inTurn index before && recordsLaidOut s) t in
+    (and-l (inTurn index before) (recordsLaidOut s) both, and-r (inTurn index before) (recordsLaidOut s) both)
+
 or-turn : (a b : Bool) → T (a || b) → (T a → ⊥) → T b
 or-turn true b t n = absurd (n tt)
 or-turn false b t n = t
 
+-- a block after block 1 follows one of 20 records
 pub full-before : (s : List ℕ) (index before : ℕ) → 2 ≤ index → blockRefusal s index before ≡ sound → 20 ≤ before
-unfolding laidOut inTurn
+unfolding inTurn
 full-before s index before h e =
-    let n : index ≡ 0 → ⊥ = λ z. omega arith in
-    let t : T (eqb (little s 0 4) index && zeros s 5 3 && (inTurn index before && recordsLaidOut s)) =
-    holds _ (rw (ne-eqb index 0 n) at (sound-laid-out s index before (ap logRefusalNumber e))) in
-    let turn = and-l (inTurn index before) (recordsLaidOut s) (and-r (eqb (little s 0 4) index && zeros s 5 3) (inTurn index before && recordsLaidOut s) t) in
+    let turn = later-parts s index before (omega arith) e .0 in
     leb→le 20 before (or-turn (leb index 1) (leb 20 before) turn (λ l. let k = leb→le index 1 l in omega arith))
 
 -- ---- entry i of a list

@@ -2,10 +2,9 @@
 use mathlib.Core.Path.{_≡_, refl, sym, ap, _∙_}
 use mathlib.Core.List.{List, [], _∷_, _++_}
 use mathlib.Core.Bool.{Bool, true, false, cond}
-use Prim.Native.Nat.{ℕ}
 use Rattle.rules.specs.State.{State}
 use Rattle.rules.specs.Policy.{Policy}
-use Rattle.rules.specs.Calls.{Reply, refused, answered, finished, shown, Outcome, replies}
+use Rattle.rules.specs.Calls.{Reply, refused, answered, finished, shown, replies}
 use Rattle.log_format.specs.declared.Entry.{Entry}
 use Rattle.log_format.specs.Verdict.{Running, Step, over, on, claims, counted, differsHere, judgeReply, judgeRecord, andThen, judgeRecords}
 use Rattle.log_format.specs.Claims.{callsOf}

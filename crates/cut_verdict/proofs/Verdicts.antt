@@ -9,11 +9,10 @@ use borrow.Author.Tests.{ne-eqb}
 use Rattle.rules.specs.Answers.{Refusal, refusalNumber}
 use Rattle.rules.specs.Policy.{Policy}
 use Rattle.rules.specs.Calls.{setupRefusal}
-use Rattle.log_format.specs.declared.Entry.{Entry}
 use Rattle.log_format.specs.Refusals.{model}
 use Rattle.log_format.specs.Bytes.{blockAt}
 use Rattle.log_format.specs.Contents.{settingIn, seedsIn, entriesIn}
-use Rattle.log_format.specs.Verdict.{Verdict, refusedAfter, Running, Step, over, on, andThen, judgeRecords, memory, nextBlock, noneCounted, setUp, judgeStart, judgeLater, judgeSound, judgeBlock, verdictOf, judgeBlocks, unread, verdict}
+use Rattle.log_format.specs.Verdict.{Verdict, refusedAfter, Running, Step, over, on, andThen, judgeRecords, memory, nextBlock, noneCounted, setUp, judgeStart, judgeLater, judgeSound, verdictOf, judgeBlocks, unread, verdict}
 use Rattle.log_format.specs.Claims.{laterOf, entriesOf, recordsOf, SoundFrom, WellFormed}
 use Rattle.log_format.proofs.Records.{on-records}
 use Rattle.log_format.proofs.Judged.{block-sound, next}

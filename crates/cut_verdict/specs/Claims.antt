@@ -2,25 +2,47 @@
 -- among them: document 02 does not ask for it, and it is not so (`notFewest` of the crate selections).
 use mathlib.Core.Path.{_≡_}
 use mathlib.Core.List.{List, [], _∷_, _++_}
-use mathlib.Core.Bool.{Bool, true, not, _&&_}
-use Prim.Native.Nat.{ℕ, suc, _+_, _/_, _%_, _^_, _≤_, _<_}
-use lib.Dec.{T, ltb, eqb}
+use mathlib.Core.Bool.{Bool, true, not}
+use Prim.Native.Nat.{ℕ, suc, _+_, _*_, _/_, _%_, _^_, _≤_, _<_}
+use lib.Dec.{T, eqb}
 use lib.ListN.{length, replicate}
+use Rattle.rules.specs.declared.Limits.{Limits}
 use Rattle.rules.specs.Answers.{none}
 use Rattle.rules.specs.Cells.{All}
 use Rattle.rules.specs.Setting.{settingOf, settingRefusal}
 use Rattle.rules.specs.Policy.{Policy}
 use Rattle.log_format.specs.declared.Entry.{Entry}
-use Rattle.log_format.specs.Bytes.{blockAt}
-use Rattle.log_format.specs.Refusals.{logRefusalNumber}
+use Rattle.log_format.specs.Bytes.{blockAt, blocksFrom}
+use Rattle.log_format.specs.Refusals.{model, cut, sound, logRefusalNumber}
+use Rattle.log_format.specs.Contents.{countIn}
+use Rattle.log_format.specs.Blocks.{blockRefusal}
 use Rattle.log_format.specs.Verdict.{verdict}
 use Rattle.log_format.specs.Encode.{logBytesOver}
-use Rattle.log_format.specs.Claims.{settingOfLog, seedsOfLog, recordsOf, WellFormed, Writable}
-use Rattle.selections.specs.Selections.{kept, stays, chosen, Repeated, word, bits}
+use Rattle.log_format.specs.Claims.{settingOfLog, seedsOfLog, recordsOf, SoundFrom, WellFormed, Writable}
+use Rattle.selections.specs.Selections.{kept, stays, chosen, Repeated, bits}
 use Rattle.selections.specs.Claims.{InOrder}
 use Rattle.cut_verdict.specs.Cut.{logRefusal, isDiffers, differing, differsWith, cutOf, codeOf, outOf}
 
 -- ---- refusals
+
+-- block 0 and the b blocks after it are sound, and the setting is accepted
+pub record Begun (m : Limits) (bytes : List ℕ) (b : ℕ) : Type 0 where
+  pub start : blockRefusal (blockAt bytes 0) 0 0 ≡ sound
+  pub accepted : settingRefusal m (settingOfLog bytes) (seedsOfLog bytes) ≡ none
+  pub later : SoundFrom 1 0 (blocksFrom bytes 1 b)
+
+-- "its blocks checked in order": the refusal of every log that has one, whatever follows the block at fault
+pub record InTurn (m : Limits) (bytes : List ℕ) : Type 0 where
+  pub empty : length bytes < 512 → logRefusal m bytes ≡ cut
+  pub start : 512 ≤ length bytes → (blockRefusal (blockAt bytes 0) 0 0 ≡ sound → ⊥) → logRefusal m bytes ≡ blockRefusal (blockAt bytes 0) 0 0
+  pub setting : 512 ≤ length bytes → blockRefusal (blockAt bytes 0) 0 0 ≡ sound → (settingRefusal m (settingOfLog bytes) (seedsOfLog bytes) ≡ none → ⊥)
+      → logRefusal m bytes ≡ model (settingRefusal m (settingOfLog bytes) (seedsOfLog bytes))
+  pub later : (b : ℕ) → 512 * (b + 2) ≤ length bytes → Begun m bytes b → (blockRefusal (blockAt bytes (suc b)) (suc b) (countIn (blockAt bytes b)) ≡ sound → ⊥)
+      → logRefusal m bytes ≡ blockRefusal (blockAt bytes (suc b)) (suc b) (countIn (blockAt bytes b))
+  pub ending : (b : ℕ) → 512 * (b + 1) < length bytes → length bytes < 512 * (b + 2) → Begun m bytes b → logRefusal m bytes ≡ cut
+
+abbrev pub BlocksInTurn : Policy → Type 0
+BlocksInTurn p = (bytes : List ℕ) → InTurn (p .limits) bytes
 
 -- well-formed, under an accepted setting: none of the refusals about blocks and setting
 pub record Readable (p : Policy) (bytes : List ℕ) : Type 0 where
@@ -32,10 +54,6 @@ ReadableExactly p =
     (bytes : List ℕ)
     → (logRefusalNumber (logRefusal (p .limits) bytes) ≡ 0 → Readable p bytes)
     × (Readable p bytes → logRefusalNumber (logRefusal (p .limits) bytes) ≡ 0)
-
--- "records that make the checker say `differs`": whether these records differ is what the checker's verdict of the log says
-abbrev pub CheckerSays : Policy → Type 0
-CheckerSays p = (bytes : List ℕ) → WellFormed bytes → differing p (blockAt bytes 0) (recordsOf bytes) ≡ isDiffers (verdict p bytes)
 
 -- The return code of every log: the first refusal of its blocks and its setting; "20 more than 64 records; 21 records that do not differ; both after 13";
 -- else 0.
@@ -101,6 +119,10 @@ pub record LogOf (bytes : List ℕ) (es : List Entry) (other : List ℕ) : Type 
   pub seeds : seedsOfLog other ≡ seedsOfLog bytes
   pub records : recordsOf other ≡ es
 
+-- "records that make the checker say `differs`": whether records differ, of this log or of a selection, is what the checker's verdict of every log of them says
+abbrev pub CheckerSays : Policy → Type 0
+CheckerSays p = (bytes : List ℕ) (es : List Entry) (other : List ℕ) → LogOf bytes es other → differing p (blockAt bytes 0) es ≡ isDiffers (verdict p other)
+
 -- "give a selection .. that still does": of every log of these records the checker says `differs`
 abbrev pub StillDiffers : Policy → Type 0
 StillDiffers p = (bytes : List ℕ) (m : ℕ) → Answer p bytes m → (other : List ℕ) → LogOf bytes (cutRecords bytes m) other → T (isDiffers (verdict p other))
@@ -118,17 +140,25 @@ Written p =
     → ((b : ℕ) → length (old b) ≡ 512) → All Writable es → length es ≤ 64
     → LogOf bytes es (logBytesOver old setting (seedsOfLog bytes) es)
 
+-- So there is one of every selection of the records of a log of bytes.
+abbrev pub SelectionsWritten : Policy → Type 0
+SelectionsWritten p =
+    (bytes : List ℕ) (sel : List Bool) → Readable p bytes → All (λ b. b < 256) bytes → length (recordsOf bytes) ≤ 64
+    → (other : List ℕ) × LogOf bytes (chosen sel (recordsOf bytes)) other
+
 -- ---- all of it
 
 pub record Theorems : Type 0 where
+  pub blocksInTurn : (p : Policy) → BlocksInTurn p
   pub readableExactly : (p : Policy) → ReadableExactly p
-  pub checkerSays : (p : Policy) → CheckerSays p
   pub codesExactly : (p : Policy) → CodesExactly p
   pub refusedLeaves : (p : Policy) → RefusedLeaves p
   pub oneNumber : (p : Policy) → OneNumber p
   pub bitsSay : (p : Policy) → BitsSay p
   pub passesEnd : (p : Policy) → PassesEnd p
   pub oldOrder : (p : Policy) → OldOrder p
+  pub checkerSays : (p : Policy) → CheckerSays p
   pub stillDiffers : (p : Policy) → StillDiffers p
   pub eachNeeded : (p : Policy) → EachNeeded p
   pub written : (p : Policy) → Written p
+  pub selectionsWritten : (p : Policy) → SelectionsWritten p
