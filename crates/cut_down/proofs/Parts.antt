@@ -1,11 +1,12 @@
 -- The parts of the answer: a refusal of the log, 20, 21, or the selection.
 use mathlib.Core.Path.{_≡_, refl, sym, ap, _∙_}
 use mathlib.Core.List.{List, [], _∷_}
-use mathlib.Core.Bool.{Bool, true, false}
-use Prim.Native.Nat.{ℕ, _-_, _^_, _≤_, _<_}
+use mathlib.Core.Bool.{Bool, true, false, not}
+use Prim.Native.Nat.{ℕ, suc, _-_, _^_, _≤_, _<_}
 use native.Mathlib.Omega.{arith}
-use lib.ListN.{length, replicate}
-use borrow.Author.Tests.{lt-ltb, le-ltb, eq-eqb}
+use lib.ListN.{length, replicate, length-replicate}
+use Rattle.head.specs.declared.Head.{Head}
+use Rattle.rules.specs.State.{state}
 use Rattle.rules.specs.Policy.{limits01, narrow}
 use Rattle.log_format.specs.Bytes.{blockAt}
 use Rattle.log_format.specs.Refusals.{logRefusalNumber}
@@ -14,9 +15,26 @@ use Rattle.selections.specs.Selections.{chosen, cutDown, word, bits}
 use Rattle.selections.proofs.Words.{bits-all}
 use Rattle.selections.proofs.Chosen.{chosen-all}
 use Rattle.cut_verdict.specs.Cut.{logRefusal, differing, differsWith, Cut, refusedWith, keeps, cutOf, codeOf, outOf}
+use Rattle.cut_verdict.specs.Roomy.{Roomy}
 use Rattle.cut_verdict.proofs.Blocks.{refused-not}
+use Rattle.cut_verdict.proofs.Codes.{cut-refused, cut-many, cut-same, cut-keeps}
 
--- what a call left that returned the code: both words
+-- a test that is turned round
+pub turned : (b c : Bool) → not b ≡ c → b ≡ not c
+turned true c e = ap not e
+turned false c e = ap not e
+
+-- the call's own memory
+pub roomy-zeros : (h : Head) → Roomy limits01 (state h (replicate 32768 0) (replicate 4096 0) (replicate 4096 0) (replicate 1536 0))
+roomy-zeros h =
+    record {
+      counters = omega (arith, length-replicate {A = ℕ} 32768 0);
+      ticks = omega (arith, length-replicate {A = ℕ} 4096 0);
+      rows = omega (arith, length-replicate {A = ℕ} 4096 0);
+      threads = omega (arith, length-replicate {A = ℕ} 1536 0);
+    }
+
+-- what a call left that returned the code
 abbrev pub Leaves : List ℕ → ℕ → List ℕ → List ℕ → Type 0
 Leaves bytes code before after = (code ≡ codeOf (cutOf narrow bytes)) × (after ≡ outOf (cutOf narrow bytes) before)
 
@@ -25,8 +43,10 @@ by-cut bytes c before e = (ap codeOf (sym e), ap (λ (d : Cut). outOf d before) 
 
 module _ (bytes before : List ℕ) (code : ℕ) (told : code ≡ logRefusalNumber (logRefusal limits01 bytes)) where
   pub leaves-refused : (code ≡ 0 → ⊥) → Leaves bytes code before before
-  unfolding cutOf
-  leaves-refused n = by-cut bytes (refusedWith code) before (rw (← told, lt-ltb 0 code (omega arith)) refl)
+  leaves-refused n =
+      let e : code ≡ suc (code - 1) = omega arith in
+      let c = by-cut bytes (refusedWith (suc (code - 1))) before (cut-refused narrow bytes (code - 1) (sym told ∙ e)) in
+      (e ∙ c .0, c .1)
 
   module _ (z : code ≡ 0) (n : ℕ) (en : n ≡ length (recordsOf bytes)) where
     none : logRefusalNumber (logRefusal limits01 bytes) ≡ 0
@@ -36,8 +56,7 @@ module _ (bytes before : List ℕ) (code : ℕ) (told : code ≡ logRefusalNumbe
     well-formed = refused-not limits01 bytes none .0
 
     pub leaves-many : 64 < n → Leaves bytes 20 before before
-    unfolding cutOf
-    leaves-many h = by-cut bytes (refusedWith 20) before (rw (none, ← en, lt-ltb 64 n h) refl)
+    leaves-many h = by-cut bytes (refusedWith 20) before (cut-many narrow bytes none (omega arith))
 
     module _ (few : n ≤ 64) (start : List ℕ) (copied : start ≡ blockAt bytes 0) (all : ℕ) (ea : all ≡ 2 ^ n - 1) (d : Bool) (said : d ≡ differing narrow start (chosen (bits n all) (recordsOf bytes))) where
       -- all records differ or not
@@ -48,11 +67,9 @@ module _ (bytes before : List ℕ) (code : ℕ) (told : code ≡ logRefusalNumbe
           ∙ ap (differing narrow (blockAt bytes 0)) (chosen-all (recordsOf bytes))
 
       pub leaves-same : d ≡ false → Leaves bytes 21 before before
-      unfolding cutOf
-      leaves-same e = by-cut bytes (refusedWith 21) before (rw (none, ← en, le-ltb 64 n few, sym whole ∙ e) refl)
+      leaves-same e = by-cut bytes (refusedWith 21) before (cut-same narrow bytes none (omega arith) (sym whole ∙ e))
 
       pub leaves-kept : d ≡ true → (kept : ℕ) → kept ≡ word (cutDown (differsWith narrow bytes) n) → Leaves bytes 0 before (kept ∷ [])
-      unfolding cutOf
       leaves-kept e kept ek =
-          let c = by-cut bytes (keeps (cutDown (differsWith narrow bytes) n)) before (rw (none, ← en, le-ltb 64 n few, sym whole ∙ e) refl) in
-          (c .0, rw ek (c .1))
+          let c = by-cut bytes (keeps (cutDown (differsWith narrow bytes) (length (recordsOf bytes)))) before (cut-keeps narrow bytes none (omega arith) (sym whole ∙ e)) in
+          (c .0, ap (λ (w : ℕ). w ∷ []) (ek ∙ ap (λ (k : ℕ). word (cutDown (differsWith narrow bytes) k)) en) ∙ c .1)

@@ -41,10 +41,30 @@ pub extern "C" fn throttle_cut_down(log: &[u8], out: &mut [u64; 1]) -> u32
     let mut threads = [0u32; 1536];
     let x = checker::start();
     let all = all_of(n);
-    if !differs(x, &start, &mut counters, &mut ticks, &mut rows, &mut threads, log, n, all) {
+    if !differs(
+        x,
+        &start,
+        &mut counters,
+        &mut ticks,
+        &mut rows,
+        &mut threads,
+        log,
+        n,
+        all,
+    ) {
         return 21;
     }
-    let kept = passes(x, &start, &mut counters, &mut ticks, &mut rows, &mut threads, log, n, all);
+    let kept = passes(
+        x,
+        &start,
+        &mut counters,
+        &mut ticks,
+        &mut rows,
+        &mut threads,
+        log,
+        n,
+        all,
+    );
     *out = [kept];
     0
 }

@@ -46,9 +46,20 @@ fn is_differing(report: Report) -> bool
     ensures { λ r. ⌜ r ≡ reportDiffers report ⌝ }
 {
     match report {
-        Report::Refused { number: _, blocks: _ } => false,
-        Report::Agrees { records: _, opened: _ } => false,
-        Report::Differs { records: _, opened: _, block: _, place: _ } => true,
+        Report::Refused {
+            number: _,
+            blocks: _,
+        } => false,
+        Report::Agrees {
+            records: _,
+            opened: _,
+        } => false,
+        Report::Differs {
+            records: _,
+            opened: _,
+            block: _,
+            place: _,
+        } => true,
     }
 }
 

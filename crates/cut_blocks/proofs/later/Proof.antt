@@ -47,10 +47,11 @@ returns c =
     let t = tested (c .before) in
     let l = t .before .loop in
     let a = begun (t .before) .args in
-    let copy = copied (c .before) .block-at in
-    (through-refused (a .bytes .now) (length (a .bytes .now) / 512) (whole (begun (t .before))) (l .b) (l .before) (l .records) (l .inv) (copy .result) (copy .ensures)
-      (t .loop-test .taken) (r .result) (r .ensures .0) (c .if1 .taken),
-      λ z. absurd (c .if1 .taken z))
+    let copy = copied (c .before) .block-at in (
+      through-refused (a .bytes .now) (length (a .bytes .now) / 512) (whole (begun (t .before))) (l .b) (l .before) (l .records) (l .inv) (copy .result) (copy .ensures)
+          (t .loop-test .taken) (r .result) (r .ensures .0) (c .if1 .taken),
+      λ z. absurd (c .if1 .taken z),
+    )
 
 count-requires : tie.Need-count-requires Inv-loop μ-loop
 count-requires c κs = search needs
@@ -77,10 +78,11 @@ loop-again c =
 returns-2 : tie.Need-returns-2 Inv-loop μ-loop
 returns-2 c =
     let l = c .before .before .loop in
-    let a = begun (c .before .before) .args in
-    (through-cut (a .bytes .now) (length (a .bytes .now) / 512) (whole (begun (c .before .before))) (l .b) (l .before) (l .records) (l .inv) (omega (arith, c .before .loop-test .left))
-      (ne-eqb (length (a .bytes .now) % 512) 0 (c .if2 .taken)),
-      λ z. absurd (omega arith))
+    let a = begun (c .before .before) .args in (
+      through-cut (a .bytes .now) (length (a .bytes .now) / 512) (whole (begun (c .before .before))) (l .b) (l .before) (l .records) (l .inv) (omega (arith, c .before .loop-test .left))
+          (ne-eqb (length (a .bytes .now) % 512) 0 (c .if2 .taken)),
+      λ z. absurd (omega arith),
+    )
 
 returns-3 : tie.Need-returns-3 Inv-loop μ-loop
 returns-3 c =

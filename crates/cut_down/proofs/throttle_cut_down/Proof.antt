@@ -1,86 +1,126 @@
+-- `throttle_cut_down`: each return is a case of the answer.
+use mathlib.Core.Path.{_≡_}
+use mathlib.Core.Bool.{true, false}
+use native.Mathlib.Omega.{arith}
+use lib.ListN.{length}
+use Rattle.rules.specs.Policy.{limits01}
+use Rattle.log_format.specs.Claims.{recordsOf, WellFormed}
+use Rattle.cut_passes.proofs.Buffers.{roomy-kept}
+use Rattle.cut_down.proofs.Parts.{turned, roomy-zeros, leaves-refused, well-formed, leaves-many, leaves-same, leaves-kept}
 use borrow.Author.Needs.{needs}
 use Rattle.cut_down.proofs.throttle_cut_down.Statement.{statement}
 use Rattle.cut_down.proofs.throttle_cut_down.Tie as tie
-use Rattle.cut_down.proofs.throttle_cut_down.Reads as reads
-use Rattle.cut_down.proofs.throttle_cut_down.Lts as lts
-use Rattle.checker.proofs.start.Reads as start-reads
-use Rattle.cut_down.proofs.all_of.Reads as all-of-reads
-use Rattle.cut_passes.proofs.passes.Reads as passes-reads
-use Rattle.cut_refusal.proofs.log_refusal.Reads as log-refusal-reads
-use Rattle.cut_run.proofs.differs.Reads as differs-reads
-use Rattle.log_block.proofs.block_at.Reads as block-at-reads
 
--- src/lib.rt:29:9
+-- the way back: from the run of all records to block 0, from there to the refusals of the log, and to the start
+abbrev copied : tie.After-differs → tie.After-block-at
+copied c = (c .before .before .before .before .before .before .before .before)
+
+abbrev refused : tie.Else2 → tie.After-log-refusal
+refused c = (c .before .before .before)
+
+abbrev begun : tie.After-log-refusal → tie.Start
+begun c = (c .before .before)
+
+-- the number of records, and that the log is well-formed
+counted : (c : tie.Else2) → refused c .log-refusal .result .records ≡ length (recordsOf (begun (refused c) .args .log .now))
+counted c = refused c .log-refusal .ensures .1 (c .before .if1 .left)
+
+formed : (c : tie.Else2) → WellFormed (begun (refused c) .args .log .now)
+formed c =
+    let r = refused c in
+    let a = begun r .args in
+    well-formed (a .log .now) (a .out .now) (r .log-refusal .result .code) (r .log-refusal .ensures .0) (c .before .if1 .left) (r .log-refusal .result .records) (counted c)
+
 log-refusal-requires : tie.Need-log-refusal-requires
 log-refusal-requires c κs = search needs
 
--- src/lib.rt:31:9
 returns : tie.Need-returns
-returns c = ?
+returns c =
+    let r = c .before .before in
+    let a = begun r .args in
+    leaves-refused (a .log .now) (a .out .now) (r .log-refusal .result .code) (r .log-refusal .ensures .0) (c .if1 .taken)
 
--- src/lib.rt:35:9
 returns-2 : tie.Need-returns-2
-returns-2 c = ?
+returns-2 c =
+    let r = c .before .before .before in
+    let q = r .log-refusal in
+    let a = begun r .args in
+    leaves-many (a .log .now) (a .out .now) (q .result .code) (q .ensures .0) (c .before .if1 .left) (q .result .records) (q .ensures .1 (c .before .if1 .left)) (c .if2 .taken)
 
--- src/lib.rt:37:17
 block-at-requires : tie.Need-block-at-requires
-block-at-requires c κs = ?
+block-at-requires c κs = let w = formed c .some in omega arith
 
--- src/lib.rt:42:9
 start-requires : tie.Need-start-requires
 start-requires c κs = search needs
 
--- src/lib.rt:43:9
 all-of-requires : tie.Need-all-of-requires
 all-of-requires c κs = search needs
 
--- src/lib.rt:44:28
 slice-aggregate-differs : tie.Need-slice-aggregate-differs
 slice-aggregate-differs c = search needs
 
--- src/lib.rt:44:43
 slice-aggregate-differs-2 : tie.Need-slice-aggregate-differs-2
 slice-aggregate-differs-2 c = search needs
 
--- src/lib.rt:44:55
 slice-aggregate-differs-3 : tie.Need-slice-aggregate-differs-3
 slice-aggregate-differs-3 c = search needs
 
--- src/lib.rt:44:66
 slice-aggregate-differs-4 : tie.Need-slice-aggregate-differs-4
 slice-aggregate-differs-4 c = search needs
 
--- src/lib.rt:44:9
 differs-requires : tie.Need-differs-requires
-differs-requires c κs = ?
+differs-requires c κs =
+    let e = c .before .before .before .before .before .before .before .before in
+    (roomy-zeros (c .before .before .before .before .before .before .start .result .head), formed e, counted e, omega (arith, e .if2 .left))
 
--- src/lib.rt:45:9
 returns-3 : tie.Need-returns-3
-returns-3 c = ?
+returns-3 c =
+    let at = c .before .before .before .before .before in
+    let e = copied at .before in
+    let r = refused e in
+    let q = r .log-refusal in
+    let a = begun r .args in
+    let all = at .before .before .before .before .before .before .all-of in
+    leaves-same (a .log .now) (a .out .now) (q .result .code) (q .ensures .0) (e .before .if1 .left) (q .result .records) (counted e) (omega (arith, e .if2 .left)) (copied at .block-at .result)
+    (copied at .block-at .ensures) (all .result) (all .ensures) (at .differs .result) (at .differs .ensures) (turned (at .differs .result) true (c .if3 .taken))
 
--- src/lib.rt:47:34
 slice-aggregate-passes : tie.Need-slice-aggregate-passes
 slice-aggregate-passes c = search needs
 
--- src/lib.rt:47:49
 slice-aggregate-passes-2 : tie.Need-slice-aggregate-passes-2
 slice-aggregate-passes-2 c = search needs
 
--- src/lib.rt:47:61
 slice-aggregate-passes-3 : tie.Need-slice-aggregate-passes-3
 slice-aggregate-passes-3 c = search needs
 
--- src/lib.rt:47:72
 slice-aggregate-passes-4 : tie.Need-slice-aggregate-passes-4
 slice-aggregate-passes-4 c = search needs
 
--- src/lib.rt:47:9
 passes-requires : tie.Need-passes-requires
-passes-requires c κs = ?
+passes-requires c κs =
+    let at = c .before .before .before .before .before .before .before .before .before .before in
+    let kept = at .differs .kept .1 .1 in
+    let e = copied at .before in
+    let h = at .before .before .before .before .before .before .before .start .result .head in (
+      roomy-kept limits01 h _ _ _ _ _ _ _ _ (roomy-zeros h) (kept .0) (kept .1 .0) (kept .1 .1 .0) (kept .1 .1 .1 .0),
+      formed e,
+      counted e,
+      omega (arith, e .if2 .left),
+      copied at .block-at .ensures,
+      at .before .before .before .before .before .before .all-of .ensures,
+    )
 
--- src/lib.rt:25:1
 returns-4 : tie.Need-returns-4
-returns-4 c = ?
+returns-4 c =
+    let at = c .before .before .before .before .before .before .before .before .before .before .before .before .before .before .before .before in
+    let e = copied at .before in
+    let r = refused e in
+    let q = r .log-refusal in
+    let a = begun r .args in
+    let all = at .before .before .before .before .before .before .all-of in
+    let p = c .before .before .before .before .before .passes in
+    leaves-kept (a .log .now) (a .out .now) (q .result .code) (q .ensures .0) (e .before .if1 .left) (q .result .records) (counted e) (omega (arith, e .if2 .left)) (copied at .block-at .result)
+    (copied at .block-at .ensures) (all .result) (all .ensures) (at .differs .result) (at .differs .ensures) (turned (at .differs .result) false (c .before .before .before .before .before .before .before .before .before .before .before .if3 .left)) (p .result) (p .ensures)
 
 pub throttle-cut-down-spec : {M : Type 1} → statement M
 throttle-cut-down-spec =

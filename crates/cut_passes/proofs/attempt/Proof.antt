@@ -71,10 +71,11 @@ returns-2 : tie.Need-returns-2
 returns-2 c =
     let at = c .before .before .before .before .before .before .before .before .before in
     let b = begun (some at) in
-    let a = b .args in
-    (ap (λ (w : ℕ). bits (a .n) (a .kept - w)) (bit b)
-      ∙ try-out (differsWith narrow (a .bytes .now)) (a .n) (a .i) (a .kept) (b .pre .5) (some at .if1 .left) (sym (says at) ∙ c .if2 .taken),
-      omega arith)
+    let a = b .args in (
+      ap (λ (w : ℕ). bits (a .n) (a .kept - w)) (bit b)
+          ∙ try-out (differsWith narrow (a .bytes .now)) (a .n) (a .i) (a .kept) (b .pre .5) (some at .if1 .left) (sym (says at) ∙ c .if2 .taken),
+      omega arith,
+    )
 
 same-length-5 : tie.Need-same-length-5
 same-length-5 c = search needs

@@ -60,14 +60,15 @@ loop-again c =
     let t = tested at in
     let l = t .before .loop in
     let i = l .inv in
-    let a = begun (t .before) .args in
-    (kept .0 ∙ i .0,
+    let a = begun (t .before) .args in (
+      kept .0 ∙ i .0,
       kept .1 .0 ∙ i .1,
       kept .1 .1 .0 ∙ i .2,
       kept .1 .1 .1 .0 ∙ i .3,
       omega (arith, t .loop-test .taken),
       omega (arith, q .ensures .1, i .5),
-      from-next (differsWith narrow (a .bytes .now)) (a .n) (a .kept) (l .left) (q .result) (l .i) (i .6) (q .ensures .0))
+      from-next (differsWith narrow (a .bytes .now)) (a .n) (a .kept) (l .left) (q .result) (l .i) (i .6) (q .ensures .0),
+    )
 
 same-length : tie.Need-same-length Inv-loop μ-loop
 same-length c = search needs

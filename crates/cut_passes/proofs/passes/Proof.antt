@@ -76,13 +76,14 @@ loop-again c =
     let kept = q .kept .1 .1 in
     let l = looped at .loop in
     let i = l .inv in
-    let a = begun (looped at) .args in
-    (kept .0 ∙ i .0,
+    let a = begun (looped at) .args in (
+      kept .0 ∙ i .0,
       kept .1 .0 ∙ i .1,
       kept .1 .1 .0 ∙ i .2,
       kept .1 .1 .1 .0 ∙ i .3,
       omega (arith, q .ensures .1, i .4),
-      more (differsWith narrow (a .bytes .now)) (a .n) (l .kept) (q .result) (i .4) (q .ensures .1) (i .5) (q .ensures .0) (c .if1 .left))
+      more (differsWith narrow (a .bytes .now)) (a .n) (l .kept) (q .result) (i .4) (q .ensures .1) (i .5) (q .ensures .0) (c .if1 .left),
+    )
 
 pub passes-spec : {M : Type 1} → statement M
 passes-spec =

@@ -42,9 +42,10 @@ refusal-requires c κs = search needs
 returns-2 : tie.Need-returns-2
 returns-2 c =
     let r = c .before .refusal in
-    let at = copied (c .before) in
-    (refused-block (begun at .args .bytes .now) (some at) (at .block-at .result) (at .block-at .ensures) (r .result) (r .ensures .0) (c .if2 .taken),
-      λ z. absurd (c .if2 .taken z))
+    let at = copied (c .before) in (
+      refused-block (begun at .args .bytes .now) (some at) (at .block-at .result) (at .block-at .ensures) (r .result) (r .ensures .0) (c .if2 .taken),
+      λ z. absurd (c .if2 .taken z),
+    )
 
 setting-requires : tie.Need-setting-requires
 setting-requires c κs = search needs
@@ -71,10 +72,11 @@ returns-3 : tie.Need-returns-3
 returns-3 c =
     let q = c .before in
     let r = tested q in
-    let at = copied r in
-    (refused-setting (begun at .args .bytes .now) (some at) (at .block-at .result) (at .block-at .ensures) (r .refusal .result) (r .refusal .ensures .0) (c .before .before .before .before .before .before .before .before .before .before .if2 .left)
-      (q .before .before .before .before .before .before .before .setting .result) (q .before .before .before .before .before .seeds .result) (q .before .before .before .before .before .before .before .setting .ensures) (q .before .before .before .before .before .seeds .ensures) (q .refusal2 .result) (said q) (c .if3 .taken),
-      λ z. absurd (c .if3 .taken z))
+    let at = copied r in (
+      refused-setting (begun at .args .bytes .now) (some at) (at .block-at .result) (at .block-at .ensures) (r .refusal .result) (r .refusal .ensures .0) (c .before .before .before .before .before .before .before .before .before .before .if2 .left)
+          (q .before .before .before .before .before .before .before .setting .result) (q .before .before .before .before .before .seeds .result) (q .before .before .before .before .before .before .before .setting .ensures) (q .before .before .before .before .before .seeds .ensures) (q .refusal2 .result) (said q) (c .if3 .taken),
+      λ z. absurd (c .if3 .taken z),
+    )
 
 later-requires : tie.Need-later-requires
 later-requires c κs = search needs
@@ -83,11 +85,12 @@ returns-4 : tie.Need-returns-4
 returns-4 c =
     let q = c .before .before in
     let r = tested q in
-    let at = copied r in
-    (refused-later (begun at .args .bytes .now) (some at) (at .block-at .result) (at .block-at .ensures) (r .refusal .result) (r .refusal .ensures .0) (c .before .before .before .before .before .before .before .before .before .before .before .if2 .left)
-      (q .before .before .before .before .before .before .before .setting .result) (q .before .before .before .before .before .seeds .result) (q .before .before .before .before .before .before .before .setting .ensures) (q .before .before .before .before .before .seeds .ensures) (q .refusal2 .result) (said q) (c .before .if3 .left)
-      (c .later .result .code) (c .later .ensures .0),
-      c .later .ensures .1)
+    let at = copied r in (
+      refused-later (begun at .args .bytes .now) (some at) (at .block-at .result) (at .block-at .ensures) (r .refusal .result) (r .refusal .ensures .0) (c .before .before .before .before .before .before .before .before .before .before .before .if2 .left)
+          (q .before .before .before .before .before .before .before .setting .result) (q .before .before .before .before .before .seeds .result) (q .before .before .before .before .before .before .before .setting .ensures) (q .before .before .before .before .before .seeds .ensures) (q .refusal2 .result) (said q) (c .before .if3 .left)
+          (c .later .result .code) (c .later .ensures .0),
+      c .later .ensures .1,
+    )
 
 pub log-refusal-spec : {M : Type 1} → statement M
 log-refusal-spec =

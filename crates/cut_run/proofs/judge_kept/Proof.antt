@@ -67,10 +67,14 @@ next-kept-requires c κs = search needs
 loop-holds : tie.Need-loop-holds Inv-loop μ-loop
 loop-holds c =
     let b = begun c in
-    let a = b .args in
-    (refl, refl, refl, refl,
+    let a = b .args in (
+      refl,
+      refl,
+      refl,
+      refl,
       sofar-none (a .s) (a .seeds .now) (bits (a .n) (a .kept)) (recordsOf (a .bytes .now)) (a .n) (all b) (bits-length (a .n) (a .kept)) (long b) (entry b) (c .next-kept .result)
-      (b .pre .1) refl (c .next-kept .ensures))
+          (b .pre .1) refl (c .next-kept .ensures),
+    )
 
 record-at-requires : tie.Need-record-at-requires Inv-loop μ-loop
 record-at-requires c κs =
@@ -84,11 +88,13 @@ judge-record-requires c κs =
     let l = t .before .loop in
     let b = begun (t .before .before) in
     let a = b .args in
-    let so = l .inv .4 in
-    (b .pre .0, so .sound,
+    let so = l .inv .4 in (
+      b .pre .0,
+      so .sound,
       sofar-room (a .s) (a .seeds .now) (bits (a .n) (a .kept)) (recordsOf (a .bytes .now)) (a .n) (all b) (bits-length (a .n) (a .kept)) (long b) (l .progress) (at-head (t .before)) (l .i) so
-      (t .loop-test .taken) (b .pre .5),
-      b .pre .2)
+          (t .loop-test .taken) (b .pre .5),
+      b .pre .2,
+    )
 
 is-differing-requires : tie.Need-is-differing-requires Inv-loop μ-loop
 is-differing-requires c κs = search needs
@@ -144,13 +150,14 @@ loop-again c =
     let b = begun (t .before .before) in
     let a = b .args in
     let r = read judged .record-at in
-    let placed = record-placed (a .bytes .now) (b .pre .3) (l .i) (omega (arith, t .loop-test .taken, long b)) in
-    (kept .0 ∙ l .inv .0,
+    let placed = record-placed (a .bytes .now) (b .pre .3) (l .i) (omega (arith, t .loop-test .taken, long b)) in (
+      kept .0 ∙ l .inv .0,
       kept .1 .0 ∙ l .inv .1,
       kept .1 .1 .0 ∙ l .inv .2,
       kept .1 .1 .1 .0 ∙ l .inv .3,
       sofar-more (a .s) (a .seeds .now) (bits (a .n) (a .kept)) (recordsOf (a .bytes .now)) (a .n) (all b) (bits-length (a .n) (a .kept)) (long b) (l .progress) (at-head (t .before)) (l .i) (l .inv .4)
-      (t .loop-test .taken) (r .result) (rw (← r .ensures) at (placed .1)) (q .result) (left judged) (q .ensures) (c .before .before .before .if1 .left) (c .next-kept2 .result) (c .next-kept2 .ensures))
+          (t .loop-test .taken) (r .result) (rw (← r .ensures) at (placed .1)) (q .result) (left judged) (q .ensures) (c .before .before .before .if1 .left) (c .next-kept2 .result) (c .next-kept2 .ensures),
+    )
 
 same-length-5 : tie.Need-same-length-5 Inv-loop μ-loop
 same-length-5 c = search needs
