@@ -4,7 +4,7 @@
 //! opened although the rules hold it, and where a quota that holds no longer is said to.
 
 use crate::numbers::Numbers;
-use crate::settings::{accepted, large, medium, seeds, small, BANKS, BASES, Q, THREADS, W};
+use crate::settings::{accepted, large, medium, seeds, small, BANKS, BASES, Q, THREADS, TRC, W};
 use second::log::{Record, Run};
 use second::write::encode;
 use second::{Fault, Setting, OLD};
@@ -81,10 +81,11 @@ impl<'a> Maker<'a> {
     /// flight, but for few.
     fn next(&mut self) -> Record {
         let numbers = &mut *self.numbers;
-        self.tick += match numbers.within(0, 15) {
+        self.tick += match numbers.within(0, 19) {
             0..=5 => 0,
-            6..=12 => numbers.within(1, 3),
-            13 | 14 => numbers.within(1, 40),
+            6..=12 => self.setting[TRC],
+            13..=16 => numbers.within(1, 3),
+            17 | 18 => numbers.within(1, 40),
             _ => self.setting[W] / 2,
         };
         let thread = numbers.within(0, self.setting[THREADS] - 1) as u8;
@@ -183,12 +184,16 @@ impl<'a> Maker<'a> {
         }
     }
 
-    /// Changes one record in one of its fields.
+    /// Changes one record in one of its fields; in half of the cases one that is held, if
+    /// there is such.
     fn change(&mut self) {
-        let Some(last) = self.records.len().checked_sub(1) else {
-            return;
+        let is_held = |place: &usize| self.records[*place].answer != OPENED;
+        let held: Vec<usize> = (0..self.records.len()).filter(is_held).collect();
+        let place = match self.records.len().checked_sub(1) {
+            None => return,
+            Some(_) if !held.is_empty() && self.numbers.one_in(2) => self.numbers.pick(&held),
+            Some(last) => self.numbers.within(0, last as u64) as usize,
         };
-        let place = self.numbers.within(0, last as u64) as usize;
         let [.., banks, threads, _] = self.setting;
         let numbers = &mut *self.numbers;
         let record = &mut self.records[place];

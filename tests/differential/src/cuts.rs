@@ -7,7 +7,9 @@ use crate::cut_tally::Told;
 use crate::library;
 use crate::memory::Guarded;
 use crate::numbers::Numbers;
-use second::{cut_damage, cut_down, cut_logs, Fault};
+use second::cut_damage::{self, Refused};
+use second::{cut_down, cut_logs, Fault};
+use std::sync::OnceLock;
 
 /// Short logs at random that are tried, long ones, and ones of large settings.
 const SHORT: u64 = 6_000;
@@ -22,25 +24,29 @@ pub fn known(fault: Fault) -> Result<Told, String> {
     let mut told = Told::default();
     for known in cut_logs::all() {
         let log = known.log();
-        let (number, out) = one(&log, fault)?;
+        let (number, out) = one(&log, fault, 0, &mut told)?;
         let left = known.left.iter().fold(0, |word, place| word | 1 << place);
         if (number, out) != (0, left) {
-            return Err(format!("{number} {out:b}, expected {left:b}: {known:?}"));
+            return Err(format!("{number} {out:x}, expected {left:x}: {known:?}"));
         }
-        told.note(&log, number, out, 0);
     }
     Ok(told)
 }
 
 /// The same with logs that are refused, or nearly.
 pub fn refused(fault: Fault) -> Result<Told, String> {
+    static LOGS: OnceLock<Vec<Refused>> = OnceLock::new();
     let mut told = Told::default();
-    for refused in cut_damage::all() {
-        let (number, out) = one(&refused.log, fault)?;
-        if number != refused.number {
-            return Err(format!("{number}, expected {}", refused.number));
+    for refused in LOGS.get_or_init(cut_damage::all) {
+        let Refused {
+            log,
+            number,
+            behind,
+        } = refused;
+        let found = one(log, fault, *behind, &mut told)?.0;
+        if found != *number {
+            return Err(format!("{found}, expected {number} before {behind}"));
         }
-        told.note(&refused.log, number, out, refused.behind);
     }
     Ok(told)
 }
@@ -84,28 +90,31 @@ pub fn great(seed: u64, fault: Fault) -> Result<Told, String> {
 fn compare(logs: impl Iterator<Item = Vec<u8>>, fault: Fault) -> Result<Told, String> {
     let mut told = Told::default();
     for log in logs {
-        let (number, out) = one(&log, fault)?;
-        told.note(&log, number, out, 0);
+        one(&log, fault, 0, &mut told)?;
     }
     Ok(told)
 }
 
-/// Cuts a log down on both sides and compares; the number and what out then holds.
-fn one(log: &[u8], fault: Fault) -> Result<(u32, u64), String> {
+/// Cuts a log down on both sides and compares; the number and what out then holds. What
+/// the log reached is counted where there is no fault, with a refusal that it is known to
+/// have behind the first.
+fn one(log: &[u8], fault: Fault, behind: u32, told: &mut Told) -> Result<(u32, u64), String> {
     let (lent, mut out) = (Guarded::new(log), Guarded::new(&[OUT]));
     let number = library::cut_down(&lent, &mut out);
     let mut expected = [OUT];
     let wanted = cut_down(log, fault, &mut expected);
-    let found = out.cells()[0];
-    if (number, found) != (wanted, expected[0]) {
-        let many = log.len();
-        let [found, expected] = [found, expected[0]].map(|word| format!("{word:x}"));
+    let (found, [expected]) = (out.cells()[0], expected);
+    if (number, found) != (wanted, expected) {
+        let bytes = log.len();
         return Err(format!(
-            "{number} {found}, expected {wanted} {expected}, in {many} bytes"
+            "{number} {found:x}, expected {wanted} {expected:x}, in {bytes} bytes"
         ));
     }
     if lent.cells() != log || !lent.intact() || !out.intact() {
         return Err("log or guard cells changed".to_string());
+    }
+    if fault == Fault::None {
+        told.note(log, number, found, behind);
     }
     Ok((number, found))
 }

@@ -110,6 +110,25 @@ pub fn by_timing() -> [Known; 2] {
     ]
 }
 
+/// A last record that the rules open, or hold for each of the four reasons, with each
+/// answer and a wait tick that is never right. It differs alone: one pass leaves out all
+/// others.
+pub fn by_answer() -> Vec<Known> {
+    let [rank, bank] = by_timing();
+    let alone = Known::new(S, vec![opened(3, 0, 2)], vec![0], 1);
+    let mut all = Vec::new();
+    for known in [alone, bank, rank, by_row(2), by_quota(2)] {
+        for answer in 0..=4 {
+            let mut records = known.records.clone();
+            let last = records.len() - 1;
+            (records[last].answer, records[last].wait) = (answer, 1);
+            let passes = if last == 0 { 1 } else { 2 };
+            all.push(Known::new(known.setting, records, vec![last], passes));
+        }
+    }
+    all
+}
+
 /// A done with an answer or a wait tick, which needs its request.
 pub fn by_done() -> [Known; 2] {
     [(1, 0), (0, 9)].map(|(answer, wait)| {
@@ -157,6 +176,7 @@ pub fn all() -> Vec<Known> {
     let mut all = vec![example(), not_smallest()];
     all.extend(by_timing());
     all.extend(by_done());
+    all.extend(by_answer());
     all.extend((1..=63).map(by_quota));
     all.extend((1..=63).step_by(6).chain([63]).map(by_row));
     all.extend((1..=3).map(chain));
