@@ -166,7 +166,11 @@ fn block_refusal(blocks: &[&[u8]], index: usize, fault: Fault) -> u32 {
     }
     let is_summed = || stored(block) == sums(block);
     if fault == Fault::CutThirteenBeforeTwelve && !is_summed() {
-        return if refusal(&changed(block, |_| {})) == 13 { 13 } else { 12 };
+        return if refusal(&changed(block, |_| {})) == 13 {
+            13
+        } else {
+            12
+        };
     }
     match mended(block, index, fault) {
         Some(mended) if is_sum_free(block, index, fault) || is_summed() => refusal(&mended),

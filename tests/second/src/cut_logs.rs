@@ -171,9 +171,26 @@ pub fn chain(requests: u64) -> Known {
     Known::new(setting, records, vec![last], passes)
 }
 
+/// Row 5 twice, two dones, row 5 again, and once more at the turn of the epoch, where a
+/// quota of 3 or the row rule holds it. The first pass leaves out the dones; then either
+/// of the first two requests can go, and the first one does.
+pub fn either_of_two() -> Known {
+    let mut setting = S;
+    setting[6] = 3;
+    let records = vec![
+        opened(6, 0, 5),
+        opened(11, 0, 5),
+        done(13, 0),
+        done(14, 0),
+        opened(19, 0, 5),
+        opened(20, 0, 5),
+    ];
+    Known::new(setting, records, vec![1, 4, 5], 3)
+}
+
 /// All of these, of up to 64 records; logs of every number of records that all stay.
 pub fn all() -> Vec<Known> {
-    let mut all = vec![example(), not_smallest()];
+    let mut all = vec![example(), not_smallest(), either_of_two()];
     all.extend(by_timing());
     all.extend(by_done());
     all.extend(by_answer());

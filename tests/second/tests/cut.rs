@@ -6,7 +6,7 @@ mod common;
 use common::*;
 use second::cut::{cut_down, passes};
 use second::cut_logs::{self, Known};
-use second::log::{check, Record, Report};
+use second::log::{check, Record, Report, BLOCK};
 use second::setting::house_seeds;
 use second::write::encode;
 use second::{cut_damage, Fault, Setting};
@@ -199,25 +199,42 @@ fn by_table(table: &[bool], many: usize) -> usize {
     }
 }
 
-/// Each wrong behaviour shows in a log that is known, in one that is damaged, or in a
-/// small one at random.
+/// The faults among these that do not show in any of these logs.
+fn hidden(faults: &[Fault], logs: &[Vec<u8>]) -> Vec<Fault> {
+    let right: Vec<_> = logs.iter().map(|log| found(log)).collect();
+    let shows = |fault: &Fault| {
+        let mut pairs = logs.iter().zip(&right);
+        pairs.any(|(log, right)| found_with(log, *fault) != *right)
+    };
+    let all = faults.iter().copied();
+    all.filter(|fault| !shows(fault)).collect()
+}
+
+/// Each wrong selection shows in a log that is known, or in a small one at random.
 #[test]
-fn every_fault_shows() {
+fn every_wrong_selection_shows() {
     let numbers = &mut Numbers::new(8);
-    let mut logs: Vec<Vec<u8>> = known().map(|known| known.log()).collect();
-    logs.extend((0..3_000).map(|_| {
+    let short = known().filter(|known| known.records.len() < 9);
+    let mut logs: Vec<Vec<u8>> = short.map(|known| known.log()).collect();
+    logs.extend((0..1_500).map(|_| {
         let (setting, records) = small(numbers);
         encode(&setting, &house_seeds(), &records)
     }));
-    logs.extend(cut_damage::all().into_iter().map(|refused| refused.log));
-    let right: Vec<_> = logs.iter().map(|log| found(log)).collect();
-    assert!(Fault::CUT.len() > 45 && Fault::CUT_REFUSALS.len() > 50);
-    let mut missed = Vec::new();
-    for &fault in [Fault::CUT, Fault::CUT_REFUSALS].concat().iter() {
-        let mut pairs = logs.iter().zip(&right);
-        if !pairs.any(|(log, right)| found_with(log, fault) != *right) {
-            missed.push(fault);
-        }
-    }
-    assert!(missed.is_empty(), "these do not show: {missed:?}");
+    logs.push(cut_logs::by_row(32).log());
+    logs.push(cut_logs::by_quota(63).log());
+    assert!(Fault::CUT.len() > 45);
+    assert_eq!(hidden(Fault::CUT, &logs), []);
+}
+
+/// Each wrong refusal shows in a damaged log, of which the short ones and every third of
+/// the others are taken.
+#[test]
+fn every_wrong_refusal_shows() {
+    let all = cut_damage::all().into_iter().map(|refused| refused.log);
+    let taken = (0..)
+        .zip(all)
+        .filter(|(k, log)| k % 3 == 0 || log.len() <= 2 * BLOCK);
+    let logs: Vec<Vec<u8>> = taken.map(|(_, log)| log).collect();
+    assert!(Fault::CUT_REFUSALS.len() > 50);
+    assert_eq!(hidden(Fault::CUT_REFUSALS, &logs), []);
 }
