@@ -13,7 +13,7 @@ use std::fmt;
 #[derive(Default)]
 pub struct Told {
     logs: u64,
-    pub kinds: BTreeMap<String, u64>,
+    kinds: BTreeMap<String, u64>,
 }
 
 /// The kinds and how often each was met.
@@ -127,7 +127,7 @@ fn difference(log: &[u8], records: &[Record]) -> String {
 /// and every answer beside every answer of the rules.
 pub fn of_known() -> Vec<String> {
     let mut wanted: Vec<String> = (1..=64).map(|many| format!("{many} stay")).collect();
-    wanted.extend((1..=5).map(|many| format!("{many} passes")));
+    wanted.extend([1, 2, 3, 4, 5, 8].map(|many| format!("{many} passes")));
     wanted.extend((0..25).map(|pair| format!("says {}, is {}", pair / 5, pair % 5)));
     wanted.extend((1..=4).map(|block| format!("block {block} has one that stays")));
     wanted.push("a done differs".to_string());

@@ -99,6 +99,7 @@ fn most_passes(fault: Fault) -> usize {
         Fault::CutOnePass => 1,
         Fault::CutTwoPasses => 2,
         Fault::CutThreePasses => 3,
+        Fault::CutSixPasses => 6,
         _ => usize::MAX,
     }
 }

@@ -1,5 +1,5 @@
 //! Logs for tests of the cut-down log, each with what it is cut down to and the number of
-//! passes, both worked out by hand.
+//! passes, both worked out by hand but for one.
 
 use crate::log::Record;
 use crate::setting::{house_seeds, Setting};
@@ -188,9 +188,34 @@ pub fn either_of_two() -> Known {
     Known::new(setting, records, vec![1, 4, 5], 3)
 }
 
+/// Found by a search for many passes. The quota is 3, and 2 in bank 2, whose row 6 is
+/// blacklisted when it is opened again (N 1, L 5); the last record says that it is held
+/// there while one is in flight. The dones go one by one, each after a request.
+pub fn eight_passes() -> Known {
+    let records = vec![
+        opened(1, 0, 5),
+        opened(2, 2, 6),
+        done(52, 0),
+        opened(152, 2, 6),
+        done(153, 2),
+        done(154, 2),
+        opened(155, 0, 5),
+        opened(156, 1, 5),
+        done(157, 0),
+        opened(158, 1, 4),
+        done(159, 1),
+        Record {
+            bank: 2,
+            ..held(159, 9, 4, 0)
+        },
+    ];
+    let setting = [400, 1, 4, 1, 150, 5, 3, 3, 1, 0];
+    Known::new(setting, records, vec![11], 8)
+}
+
 /// All of these, of up to 64 records; logs of every number of records that all stay.
 pub fn all() -> Vec<Known> {
-    let mut all = vec![example(), not_smallest(), either_of_two()];
+    let mut all = vec![example(), not_smallest(), either_of_two(), eight_passes()];
     all.extend(by_timing());
     all.extend(by_done());
     all.extend(by_answer());

@@ -9,6 +9,8 @@ macro_rules! faults_of_cut {
     CutTwoPasses,
     /// Three passes are made at most.
     CutThreePasses,
+    /// Six passes are made at most.
+    CutSixPasses,
     /// Each pass goes from the last record to the first.
     CutLastToFirst,
     /// Every second pass goes from the last record to the first.
