@@ -139,7 +139,7 @@ pub fn of_known() -> Vec<String> {
 /// that can stand behind it, and each number of records.
 pub fn of_refused() -> Vec<String> {
     let blocks = [11, 12, 13];
-    let mut pairs = vec![(11, 0), (20, 0), (21, 0), (20, 21)];
+    let mut pairs = vec![(11, 0), (20, 0), (21, 0), (20, 21), (11, 13)];
     pairs.extend(
         blocks
             .iter()

@@ -33,8 +33,8 @@ pub fn read(log: &[u8], fault: Fault) -> Result<Judge<'_>, u32> {
     }
     blocks.truncate(looked_at(&blocks, fault));
     let reasons = reasons(&blocks, fault);
-    let counted = reasons.iter().copied();
-    let first = counted.min_by_key(|&(reason, number)| order(reason, number, &blocks, fault));
+    let all = reasons.iter().copied();
+    let first = all.min_by_key(|&(reason, number)| order(reason, number, &blocks, fault));
     match first {
         None => Ok(judge(&blocks, fault)),
         Some((Reason::Many, _)) if is_same_before_many(&blocks, &reasons, fault) => Err(21),
@@ -107,7 +107,7 @@ fn most(fault: Fault) -> usize {
 }
 
 /// Where a refusal stands in the order of the tests: block 0, its setting, the other
-/// blocks, 20.
+/// blocks, 20. The least number comes first.
 fn order(reason: Reason, number: u32, blocks: &[&[u8]], fault: Fault) -> u64 {
     let of_block = |index: u64| 10 * index + 10;
     match (fault, reason) {

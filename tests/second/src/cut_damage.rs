@@ -124,8 +124,8 @@ const OF_FIRST: [Damage; 13] = [
 ];
 
 /// Damages of a block of records: of its number, its count, the zeros after it, a
-/// record's kind, answer and zeros, and byte 507.
-const OF_LATER: [Damage; 18] = [
+/// record's kind, answer and zeros, also of the tenth, and the zeros after 20 records.
+const OF_LATER: [Damage; 21] = [
     Damage::Cut(1),
     Damage::Cut(BLOCK - 1),
     Damage::Sum(0),
@@ -142,6 +142,9 @@ const OF_LATER: [Damage; 18] = [
     Damage::Contents(BODY + 21, 5),
     Damage::Contents(BODY + 22, 1),
     Damage::Contents(BODY + 23, 1),
+    Damage::Contents(BODY + 9 * 24 + 20, 2),
+    Damage::Contents(BODY + 9 * 24 + 21, 255),
+    Damage::Contents(BODY + 20 * 24, 1),
     Damage::Contents(SUMS - 1, 1),
     Damage::Both(BODY + 21, 5),
 ];
@@ -200,20 +203,23 @@ fn kinds() -> [(usize, End); 7] {
     ]
 }
 
-/// Blocks of fewer than 20 records that are not the last: the block after is refused.
+/// Blocks of fewer than 20 records that are not the last: the block after is refused, also
+/// for a wrong sum or for its end, which come first.
 fn short_blocks() -> Vec<Refused> {
     let mut all = Vec::new();
-    for many in [30, 50, 85] {
+    for (many, fewer) in [(50, 1), (50, 7), (85, 1), (85, 19)] {
         for short in 1..many / RECORDS {
-            for fewer in [1, 7] {
-                let mut log = log(many, End::Differs(0));
-                let end = BODY + 24 * (RECORDS - fewer);
-                let block = &mut log[short * BLOCK..(short + 1) * BLOCK];
-                block[4] -= fewer as u8;
-                block[end..SUMS].fill(0);
-                seal(block);
-                all.push(Refused::new(log, 13, 0));
+            let mut log = log(many, End::Differs(0));
+            let end = BODY + 24 * (RECORDS - fewer);
+            let block = &mut log[short * BLOCK..(short + 1) * BLOCK];
+            block[4] -= fewer as u8;
+            block[end..SUMS].fill(0);
+            seal(block);
+            for damage in [Damage::Sum(2), Damage::Cut(300)] {
+                let log = damage.made(&log, short + 1);
+                all.push(Refused::new(log, damage.number(), 13));
             }
+            all.push(Refused::new(log, 13, 0));
         }
     }
     all
@@ -323,9 +329,20 @@ pub fn settings() -> Vec<Refused> {
     all
 }
 
+/// Logs with a seed at its limit and above it.
+fn seeds() -> [Refused; 2] {
+    [(1_023, 0), (1_024, 1)].map(|(seed, number)| {
+        let mut seeds = house_seeds();
+        seeds[63] = seed;
+        let log = encode(&S, &seeds, &[held(3, 2, 4, 0)]);
+        Refused::new(log, number, 0)
+    })
+}
+
 /// An empty log, and all others.
 pub fn all() -> Vec<Refused> {
     let mut all = vec![Refused::new(Vec::new(), 11, 0)];
+    all.extend(seeds());
     all.extend(counted());
     all.extend(damaged());
     all.extend(damaged_twice());

@@ -84,6 +84,17 @@ pub fn by_quota(many: u64) -> Known {
     Known::new(setting, records, left, 1)
 }
 
+/// The same with 64 records in all banks of a setting that takes all memory: 16 banks, 32
+/// threads and 4,096 history places.
+pub fn by_quota_in_all_banks() -> Known {
+    let mut known = by_quota(63);
+    known.setting = [40_000, 1, 1, 64, 1_024, 200, 63, 16, 32, 0];
+    for (k, record) in known.records.iter_mut().enumerate() {
+        (record.bank, record.thread) = (k as u8 % 16, 31);
+    }
+    known
+}
+
 /// So many activations of a row, which is then held; without any of them it is not. All
 /// stay.
 pub fn by_row(many: u64) -> Known {
@@ -220,6 +231,7 @@ pub fn all() -> Vec<Known> {
     all.extend(by_done());
     all.extend(by_answer());
     all.extend((1..=63).map(by_quota));
+    all.push(by_quota_in_all_banks());
     all.extend((1..=63).step_by(6).chain([63]).map(by_row));
     all.extend((1..=3).map(chain));
     all
