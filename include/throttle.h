@@ -252,7 +252,8 @@ enum throttle_answer {
 /*
  * Both in a few words, for messages; "unknown" for any other number. 11 to 13
  * are refusals of the log checker, 13 also of the log writer; 18 is one of
- * throttle_fit_probes (throttle_probes.h).
+ * throttle_fit_probes (throttle_probes.h), 20 and 21 are those of
+ * throttle_cut_down (throttle_cut_down.h), which has 11 to 13 too.
  */
 static inline const char *throttle_refusal_name(uint32_t number)
 {
@@ -273,6 +274,8 @@ static inline const char *throttle_refusal_name(uint32_t number)
     case 12: return "sum of a block is wrong";
     case 13: return "against the log format";
     case 18: return "jitter or tick of a probe too large";
+    case 20: return "more than 64 records";
+    case 21: return "records that do not differ";
     default: return "unknown";
     }
 }

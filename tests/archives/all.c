@@ -2,11 +2,12 @@
  * Every archive of the project in one program: the planner, the throttle and
  * the log writer are called with one setting, under both profiles, and what they
  * give is compared with what the specification says of it; the fit of two probes;
- * and the hashing of rows, which bench/run alone uses, by both of its ways. The
- * argument is the path of samples/sample.log, whose first block is what the log
- * writer must write under the large profile.
+ * the cut-down log; and the hashing of rows, which bench/run alone uses, by both of
+ * its ways. The argument is the path of samples/sample.log, whose first block is what
+ * the log writer must write under the large profile.
  */
 #include "throttle.h"
+#include "throttle_cut_down.h"
 #include "throttle_log.h"
 #include "throttle_plan.h"
 #include "throttle_probes.h"
@@ -167,6 +168,25 @@ static void check_probes(void)
     check(out[0] == 7 && out[1] == 7, "a refused throttle_fit_probes writes to out");
 }
 
+/* A log of the log writer's: row 2 opened at 3, its done at 8, and the same row at 16, which the quota is said to hold. */
+static void check_cut_down(const uint8_t sample[THROTTLE_LOG_BLOCK])
+{
+    static uint8_t log[2 * THROTTLE_LOG_BLOCK];
+    uint8_t *records = log + THROTTLE_LOG_BLOCK;
+    uint64_t out[THROTTLE_CUT_OUT] = {7};
+    memcpy(log, sample, THROTTLE_LOG_BLOCK);
+    check(throttle_log_record(records, 0, 3, 0, 2, 0, 0, 0, THROTTLE_OPENED) == 0 &&
+              throttle_log_record(records, 1, 8, 0, 0, 0, 0, 1, 0) == 0 && throttle_log_seal(records, 1, 2) == 0,
+          "the log writer refuses two records");
+    check(throttle_cut_down(log, sizeof log, out) == THROTTLE_NO_DIFFERENCE && out[0] == 7,
+          "throttle_cut_down cuts down a log that agrees");
+    check(throttle_log_record(records, 2, 16, 0, 2, 0, 0, 0, THROTTLE_QUOTA) == 0 && throttle_log_seal(records, 1, 3) == 0,
+          "the log writer refuses the third record");
+    check(throttle_cut_down(log, sizeof log, out) == 0 && out[0] == 4 && throttle_cut_keeps(out[0], 2),
+          "throttle_cut_down does not keep the third record alone");
+    check(throttle_cut_down(log, sizeof log - 1, out) == 11 && out[0] == 4, "throttle_cut_down takes a log that is cut off");
+}
+
 /* The benchmark's archive has no header: the exclusive or of the hashes of all rows, function f's 16 f bits up. */
 uint64_t hash_rows(const uint16_t *seeds, size_t seeds_length, const uint16_t *rows, size_t rows_length, uint32_t table);
 
@@ -210,6 +230,7 @@ int main(int count, char **arguments)
     check_throttle(THROTTLE_PROFILE_SMALL);
     check_log(sample);
     check_probes();
+    check_cut_down(sample);
     check_hashes();
     return failed;
 }

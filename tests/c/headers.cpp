@@ -1,6 +1,7 @@
 // The headers as a C++ program includes them.
 #include "throttle_wide.h"
 #include "throttle.h"
+#include "throttle_cut_down.h"
 #include "throttle_log.h"
 #include "throttle_plan.h"
 #include "throttle_probes.h"
@@ -31,4 +32,12 @@ bool fitted(uint16_t bank, uint16_t row, int64_t d)
     uint64_t out[THROTTLE_PROBES_OUT];
     return throttle_fit_probes(&first, 1, &word, 1, 1, &second, 1, &word, 1, 1, THROTTLE_PROBES_MOST_JITTER, out) == 0 &&
            throttle_probes_offset(out) == d;
+}
+
+// The call that cuts a log down; does the first record stay?
+bool kept(const uint8_t *log, size_t length);
+bool kept(const uint8_t *log, size_t length)
+{
+    uint64_t out[THROTTLE_CUT_OUT];
+    return throttle_cut_down(log, length, out) == 0 && throttle_cut_keeps(out[0], 0);
 }

@@ -4,6 +4,7 @@
  * with no such name it must.
  */
 #include "throttle.h"
+#include "throttle_cut_down.h"
 #include "throttle_log.h"
 #include "throttle_plan.h"
 #include "throttle_probes.h"
@@ -11,6 +12,7 @@
 static uint64_t setting[THROTTLE_SETTING_WORDS], head[THROTTLE_HEAD_CELLS], ticks[8];
 static uint64_t out[THROTTLE_REQUEST_OUT], index_out[THROTTLE_INDEX_OUT];
 static uint64_t delays[THROTTLE_DELAYS_OUT], bound[THROTTLE_SPAN_OUT], fit[THROTTLE_PROBES_OUT];
+static uint64_t cut[THROTTLE_CUT_OUT];
 static uint16_t seeds[THROTTLE_SEEDS], counters[2048], row;
 static uint32_t rows[8], threads[3], wide_counters[2048];
 static uint8_t block[THROTTLE_LOG_BLOCK];
@@ -59,7 +61,7 @@ static void new_width(void)
 #endif
 }
 
-/* A row's test, the log writer, the planner and the probes. */
+/* A row's test, the log writer, the planner, the probes and the cut-down log. */
 static void beside_state(void)
 {
 #ifdef IGNORE_throttle_row
@@ -86,6 +88,9 @@ static void beside_state(void)
 #ifdef IGNORE_throttle_fit_probes
     throttle_fit_probes(RECORDS, RECORDS, 0, fit);
 #endif
+#ifdef IGNORE_throttle_cut_down
+    throttle_cut_down(block, THROTTLE_LOG_BLOCK, cut);
+#endif
 }
 
 int main(void)
@@ -98,5 +103,5 @@ int main(void)
            throttle_index(STATE, 0, 0, 0, index_out) + throttle_delays(setting, delays) +
            throttle_wide_delays(setting, delays) + throttle_log_seal(block, 1, 1) + throttle_change_over(OLD_STATE) +
            throttle_wide_setup(WIDE_STATE) + throttle_span_bound(setting, 40, bound) +
-           throttle_fit_probes(RECORDS, RECORDS, 0, fit) > 0;
+           throttle_fit_probes(RECORDS, RECORDS, 0, fit) + throttle_cut_down(block, THROTTLE_LOG_BLOCK, cut) > 0;
 }

@@ -5,6 +5,7 @@
  * gcc and clang warn of it.
  */
 #include "throttle.h"
+#include "throttle_cut_down.h"
 #include "throttle_log.h"
 #include "throttle_plan.h"
 #include "throttle_probes.h"
@@ -38,6 +39,7 @@ enum {
     SPAN_OUT,
     PROBES_OUT,
     OFFSET_OUT,
+    CUT_OUT,
     BLOCK
 };
 #ifndef SHORT
@@ -71,11 +73,13 @@ static uint64_t wide_delays_out[LENGTH(WIDE_DELAYS_OUT, THROTTLE_DELAYS_OUT)];
 static uint64_t span_out[LENGTH(SPAN_OUT, THROTTLE_SPAN_OUT)];
 static uint64_t probes_out[LENGTH(PROBES_OUT, THROTTLE_PROBES_OUT)];
 static uint64_t offset_out[LENGTH(OFFSET_OUT, THROTTLE_PROBES_OUT)];
+static uint64_t cut_out[LENGTH(CUT_OUT, THROTTLE_CUT_OUT)];
 static uint8_t block[LENGTH(BLOCK, THROTTLE_LOG_BLOCK)];
 
 static uint16_t seeds[THROTTLE_SEEDS], counters[2048];
 static uint64_t ticks[8];
 static uint32_t rows[8], threads[3], wide_counters[2048];
+static const uint8_t log_bytes[THROTTLE_LOG_BLOCK];
 
 #define BEHIND ticks, 8, rows, 8, threads, 3
 #define STATE(setting) setting, seeds, THROTTLE_SEEDS, head, counters, 2048, BEHIND
@@ -98,5 +102,5 @@ uint32_t call_all(const struct throttle_setting *s)
            throttle_change_over(OLD_STATE) + throttle_log_start(log_setting, seeds, THROTTLE_SEEDS, block) +
            throttle_delays(plan_setting, delays_out) + throttle_wide_delays(wide_plan_setting, wide_delays_out) +
            throttle_span_bound(span_setting, 40, span_out) + throttle_fit_probes(RECORDS, RECORDS, 0, probes_out) +
-           (throttle_probes_offset(offset_out) < 0);
+           (throttle_probes_offset(offset_out) < 0) + throttle_cut_down(log_bytes, sizeof log_bytes, cut_out);
 }

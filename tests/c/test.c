@@ -85,8 +85,8 @@ static void house_seeds(void)
 /* Every number has a name, no two the same one, and "unknown" is that of all the others. */
 static void names(void)
 {
-    for (uint32_t i = 0; i < 20; i++) {
-        int named = i < 14 || i == THROTTLE_ABOVE_PROFILE || i == 18;
+    for (uint32_t i = 0; i < 24; i++) {
+        int named = i < 14 || i == THROTTLE_ABOVE_PROFILE || i == 18 || i == 20 || i == 21;
         CHECK(named == (strcmp(throttle_refusal_name(i), "unknown") != 0));
         for (uint32_t k = 0; named && k < i; k++)
             CHECK(strcmp(throttle_refusal_name(i), throttle_refusal_name(k)) != 0);

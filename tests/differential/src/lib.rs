@@ -1,8 +1,8 @@
 //! Tests of the compiled library from outside. It is compared, call by call,
 //! with the second implementation, which was written from the specification
 //! alone; and it is attacked by programs that try to activate a row more often
-//! than the setting allows. Block 0 of the log writer, the planner's calls and the fit of
-//! two probes are compared too.
+//! than the setting allows. Block 0 of the log writer, the planner's calls, the fit of two
+//! probes and the cut-down log are compared too.
 //!
 //! The throttle is compared in both widths, and so are the change-over and what a
 //! state that was taken over answers.
@@ -29,6 +29,8 @@
 //! - `spans`: the bound of spans of every length
 //! - `probes`, `probe_lists`, `probe_tally`: the fit of two probes, listed lists and what
 //!   lists reached
+//! - `cuts`, `cut_runs`, `cut_tally`: the cut-down log, logs at random and what logs
+//!   reached
 //! - `orders`: groups of activations in several orders, and what the filters hold
 //!   after them
 //! - `adversary`, `crossed`, `reached`: rows hammered as often as the answers allow,
@@ -42,6 +44,9 @@ pub mod change_refusals;
 mod contents;
 pub mod crossed;
 pub mod crossing;
+mod cut_runs;
+pub mod cut_tally;
+pub mod cuts;
 pub mod edges;
 pub mod far;
 pub mod hashes;

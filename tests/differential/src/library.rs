@@ -1,7 +1,8 @@
 //! The calls of the archives, as the headers declare them: the four calls of the
 //! throttle in both widths and the change-over (include/throttle.h), block 0 of the
-//! log writer (include/throttle_log.h), the planner (include/throttle_plan.h) and the fit
-//! of two probes (include/throttle_probes.h).
+//! log writer (include/throttle_log.h), the planner (include/throttle_plan.h), the fit of
+//! two probes (include/throttle_probes.h) and the cut-down log
+//! (include/throttle_cut_down.h).
 
 use crate::call::{Call, Kind};
 use crate::memory::{Counters, Guarded, Memory};
@@ -99,6 +100,8 @@ extern "C" {
         jitter: u64,
         out: *mut u64,
     ) -> u32;
+
+    fn throttle_cut_down(log: *const u8, log_len: usize, out: *mut u64) -> u32;
 }
 
 /// Calls a function of the library on the memory with these counters, with further
@@ -276,4 +279,12 @@ pub fn fit_probes([first, second]: &[Recorded; 2], jitter: u64, out: &mut Guarde
             out.cells_mut().as_mut_ptr(),
         )
     }
+}
+
+/// Cuts a log down; out has one word.
+pub fn cut_down(log: &Guarded<u8>, out: &mut Guarded<u64>) -> u32 {
+    assert_eq!(out.cells().len(), 1);
+    let (log, out) = (log.cells(), out.cells_mut().as_mut_ptr());
+    // The pointers are those of live, separate buffers of these lengths.
+    unsafe { throttle_cut_down(log.as_ptr(), log.len(), out) }
 }

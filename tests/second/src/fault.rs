@@ -1,6 +1,7 @@
 //! Plausible wrong behaviours of the throttle, the log checker, the log writer, the
-//! planner's calls and the fit of two probes. A test campaign switches on one of them and
-//! asks whether it would notice. `Fault::None` is the plain specification.
+//! planner's calls, the fit of two probes and the cut-down log. A test campaign switches
+//! on one of them and asks whether it would notice. `Fault::None` is the plain
+//! specification.
 //!
 //! - `CALLS`: of the four calls, but for the lists from `LEFT` to `SMALL`
 //! - `LEFT`: of the openings left that a request reports
@@ -22,6 +23,8 @@
 //! - `ORDER`: of the filters, which depend on the order of the activations
 //! - `PROBES`: of the fit of two probes
 //! - `PROBES_REFUSALS`: of the refusals of the call that gives it
+//! - `CUT`: of the selection that a log is cut down to
+//! - `CUT_REFUSALS`: of the refusals of the call that gives it
 //!
 //! The listings are in files of their own, and `listing` makes the enum from them.
 
@@ -41,11 +44,13 @@ mod change;
 mod span;
 #[macro_use]
 mod probes;
+#[macro_use]
+mod cut;
 
 joined! {
     [
         faults_of_calls faults_of_left faults_of_hash faults_of_profile faults_of_width
-        faults_of_change faults_of_span faults_of_probes
+        faults_of_change faults_of_span faults_of_probes faults_of_cut
     ]
     {}
 }

@@ -22,6 +22,10 @@
 //! - `span`: the most activations of a row in a span of any length
 //! - `probes`, `probe_refusals`: whether the lists of two probes fit, and how far their
 //!   clocks are apart
+//! - `cut`, `cut_judge`, `cut_blocks`: the records of a log that still differ, how a
+//!   selection of them is judged, and the refusals of a log
+//! - `cut_logs`, `cut_damage`: logs that are cut down, and logs that are refused, with what
+//!   comes of them
 //! - `fault`: wrong behaviours that can be switched on, one at a time, made by
 //!   `listing` from the lists under `fault`
 
@@ -31,6 +35,11 @@ mod listing;
 mod by_order;
 pub mod change;
 mod clock;
+pub mod cut;
+mod cut_blocks;
+pub mod cut_damage;
+pub mod cut_judge;
+pub mod cut_logs;
 pub mod decision;
 pub mod fault;
 pub mod filter;
@@ -50,6 +59,7 @@ pub mod table;
 pub mod write;
 
 pub use change::change_over;
+pub use cut::cut_down;
 pub use fault::Fault;
 pub use limits::{Limits, NEW, OLD};
 pub use model::{done, index, request, setup};

@@ -74,7 +74,7 @@ pub struct Record {
 }
 
 impl Record {
-    fn read(bytes: &[u8]) -> Self {
+    pub fn read(bytes: &[u8]) -> Self {
         Record {
             tick: number(&bytes[0..8]),
             wait: number(&bytes[8..16]),
@@ -84,6 +84,11 @@ impl Record {
             kind: bytes[20],
             answer: bytes[21],
         }
+    }
+
+    /// The answer and the wait tick that it has.
+    pub fn says(&self) -> [u64; 2] {
+        [u64::from(self.answer), self.wait]
     }
 
     pub fn write(&self) -> [u8; RECORD] {
@@ -116,7 +121,7 @@ pub fn sums(block: &[u8]) -> [u64; 2] {
 
 /// Refusals 11, 12 and 13 of a whole block; `previous` is the record count of
 /// the block before it.
-fn sound(block: &[u8], index: u64, previous: usize, fault: Fault) -> Result<(), u32> {
+pub fn sound(block: &[u8], index: u64, previous: usize, fault: Fault) -> Result<(), u32> {
     if block.len() < BLOCK {
         return Err(11);
     }
@@ -184,8 +189,8 @@ fn zeros(bytes: &[u8]) -> bool {
     bytes.iter().all(|&byte| byte == 0)
 }
 
-/// The records of a block, as many as its count says.
-fn records(block: &[u8]) -> impl Iterator<Item = &[u8]> {
+/// The records of a block, as many as its count says and as there are places.
+pub fn records(block: &[u8]) -> impl Iterator<Item = &[u8]> {
     block[BODY..SUMS]
         .chunks_exact(RECORD)
         .take(usize::from(block[4]))
@@ -222,18 +227,18 @@ fn told(number: u32, fault: Fault) -> u32 {
 }
 
 /// The run of a log: the setting, the throttle's memory, and the counts.
-struct Run {
+pub struct Run {
     setting: Setting,
     seeds: Vec<u16>,
     fault: Fault,
-    state: State,
+    pub state: State,
     records: u64,
     opened: u64,
 }
 
 impl Run {
     /// Reads the setting of block 0 and sets the throttle up.
-    fn start(block: &[u8], fault: Fault) -> Result<Self, u32> {
+    pub fn start(block: &[u8], fault: Fault) -> Result<Self, u32> {
         let setting = read_setting(block, fault);
         let words = block[SEEDS..].chunks_exact(2).take(64);
         let seeds: Vec<u16> = words.map(|word| number(word) as u16).collect();
@@ -258,9 +263,9 @@ impl Run {
         }
     }
 
-    /// Runs one record; true if the rules answer as it says. A record has no
-    /// openings left.
-    fn judge(&mut self, record: &Record) -> Result<bool, u32> {
+    /// The answer and the wait tick that the rules give to a record, both 0 for a
+    /// done. A record has no openings left.
+    pub fn answer(&mut self, record: &Record) -> Result<[u64; 2], u32> {
         let config = Config {
             setting: self.setting,
             seeds: &self.seeds,
@@ -287,11 +292,17 @@ impl Run {
         if refusal != 0 {
             return Err(refusal);
         }
+        Ok([out[0], out[1]])
+    }
+
+    /// Runs one record; true if the rules answer as it says.
+    fn judge(&mut self, record: &Record) -> Result<bool, u32> {
+        let found = self.answer(record)?;
         self.records += 1;
-        if record.kind == 0 && out[0] == OPENED {
+        if record.kind == 0 && found[0] == OPENED {
             self.opened += 1;
         }
-        Ok(out[..2] == [u64::from(record.answer), record.wait])
+        Ok(found == record.says())
     }
 
     /// Runs a block's records up to the first that differs; its place from 1.

@@ -1,7 +1,7 @@
 //! Every wrong behaviour of the calls that can be switched on shows in a campaign
 //! of small runs, on memory set up and on memory of any contents. Those of the
-//! hash by bytes, of the profile mark, of the widths, of spans and of two probes have
-//! tests of their own.
+//! hash by bytes, of the profile mark, of the widths, of spans, of two probes and of
+//! cut-down logs have tests of their own.
 
 mod common;
 
@@ -77,6 +77,8 @@ fn every_fault_belongs_to_a_part() {
         Fault::ORDER,
         Fault::PROBES,
         Fault::PROBES_REFUSALS,
+        Fault::CUT,
+        Fault::CUT_REFUSALS,
     ];
     assert_eq!(parts.concat(), Fault::ALL);
 }

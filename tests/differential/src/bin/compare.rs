@@ -3,8 +3,8 @@
 //! and under the house seeds and seeds next to them; the change-over, alone and in
 //! lists of calls; the library with itself under both profiles, in both widths after
 //! a change-over and with activations in several orders; the log writer, the planner,
-//! the bounds of spans and the fit of two probes. Arguments, both optional: the seed and
-//! the number of runs in the old width.
+//! the bounds of spans, the fit of two probes and cut-down logs. Arguments, both optional:
+//! the seed and the number of runs in the old width.
 
 use differential::campaign::Campaign;
 use differential::hashes::Sides;
@@ -13,8 +13,8 @@ use differential::settings::{accepted, bases};
 use differential::side::Library;
 use differential::tally::{Tally, LEAST};
 use differential::{
-    beside, change_refusals, crossing, edges, far, hashes, levels, orders, planner, probes, rings,
-    spans, twins, writer,
+    beside, change_refusals, crossing, cut_tally, cuts, edges, far, hashes, levels, orders,
+    planner, probes, rings, spans, twins, writer,
 };
 use second::{Fault, Limits, NEW, OLD};
 use std::fmt::Debug;
@@ -51,6 +51,7 @@ fn main() -> ExitCode {
         && both.into_iter().all(|limits| planned(seed, limits))
         && spanned(seed)
         && probed(seed)
+        && cut_down(seed)
         && both.into_iter().all(|limits| ordered(seed, limits));
     if !same {
         println!("compare: FAILED");
@@ -241,6 +242,32 @@ fn probed(seed: u64) -> bool {
         && none("two probes, long lists", long, |told| {
             told.fitting().min(told.unfit()) > LEAST
         })
+}
+
+/// Compares cut-down logs: every kind of listed logs is to be met, and often the kinds of
+/// logs at random.
+fn cut_down(seed: u64) -> bool {
+    let fault = Fault::None;
+    let parts = [
+        ("known", cuts::known(fault), cut_tally::of_known(), 1),
+        ("refused", cuts::refused(fault), cut_tally::of_refused(), 1),
+        ("short", cuts::short(seed, fault), cut_tally::of_short(), 5),
+        ("long", cuts::long(seed, fault), cut_tally::of_long(), 1),
+        (
+            "large settings",
+            cuts::great(seed, fault),
+            cut_tally::of_great(),
+            1,
+        ),
+    ];
+    parts.into_iter().all(|(name, compared, wanted, least)| {
+        let told = compared.as_ref().ok();
+        let missed = told.map_or(Vec::new(), |told| told.missed(wanted, least));
+        if !missed.is_empty() {
+            println!("compare: met too seldom in cut-down logs, {name}: {missed:?}");
+        }
+        none(&format!("cut-down logs, {name}"), compared, |_| true) && missed.is_empty()
+    })
 }
 
 /// Compares the filters of the library after groups in several orders, and after

@@ -1,8 +1,8 @@
 //! Shows that the comparison sees: the library against the second
 //! implementation with one fault switched on must differ, for each fault of the
 //! calls in each width, of the hash by bytes, of the change-over, of the log writer,
-//! of the planner, of the bounds of spans and of the fit of two probes. Those of the log
-//! checker are shown by tests/log/run.
+//! of the planner, of the bounds of spans, of the fit of two probes and of cut-down logs.
+//! Those of the log checker are shown by tests/log/run too.
 //! Argument, optional: the seed.
 
 use differential::campaign::Campaign;
@@ -13,8 +13,8 @@ use differential::rings::By;
 use differential::side::Second;
 use differential::tally::Tally;
 use differential::{
-    beside, change_refusals, crossing, edges, far, hashes, levels, orders, planner, probes, rings,
-    spans, twins, writer,
+    beside, change_refusals, crossing, cuts, edges, far, hashes, levels, orders, planner, probes,
+    rings, spans, twins, writer,
 };
 use second::{Fault, Limits, NEW, OLD};
 use std::ops::Range;
@@ -24,7 +24,7 @@ use std::process::ExitCode;
 const FIRST: u64 = 300;
 const RUNS: u64 = 5_000;
 /// Faults that are to be planted at least, those of both widths twice.
-const FAULTS: usize = 775;
+const FAULTS: usize = 911;
 /// Bits of the 64 seeds, up to 1,023.
 const BITS: usize = 64 * hashes::BITS as usize;
 /// Wrong histories in refusal 7, which the change-over has to show too.
@@ -71,6 +71,22 @@ const COUNTS: [Fault; 8] = [
     Fault::SeedsOred,
 ];
 
+/// Wrong rules that have to show in the judgement of a selection.
+const JUDGED: [Fault; 12] = [
+    Fault::TestsClearedFilter,
+    Fault::CountsWaits,
+    Fault::DelayAloneAsWait,
+    Fault::DoneTakesNothing,
+    Fault::RankThirdLast,
+    Fault::RowDelayIsTrc,
+    Fault::StoresWithoutPlusOne,
+    Fault::BankGapStrict,
+    Fault::QuotaRoundsDown,
+    Fault::InFlightOfBank,
+    Fault::QuotaLast,
+    Fault::SeedsReversed,
+];
+
 fn main() -> ExitCode {
     let seed = std::env::args()
         .nth(1)
@@ -95,6 +111,11 @@ fn main() -> ExitCode {
     println!("faults: two probes");
     let fits = [Fault::PROBES, Fault::PROBES_REFUSALS].concat();
     planted.all(&fits, |fault| in_probes(seed, fault));
+    println!("faults: cut-down logs");
+    let cuts = [Fault::CUT, Fault::CUT_REFUSALS].concat();
+    let logs = [Fault::CHECKER, Fault::LOG_LIMITS, &JUDGED].concat();
+    planted.all(&cuts, |fault| in_cuts(seed, fault));
+    planted.all(&logs, |fault| in_cuts(seed, fault));
     let Planted { many, caught } = planted;
     println!("faults: {caught} of {many} caught");
     let bits = bits_seen(seed);
@@ -126,7 +147,7 @@ impl Planted {
     }
 }
 
-/// Is every fault in a list that is planted here or by tests/log/run?
+/// Is every fault in a list that is planted here?
 fn every_list() -> bool {
     let here = [
         Fault::CALLS,
@@ -147,9 +168,12 @@ fn every_list() -> bool {
         Fault::ORDER,
         Fault::PROBES,
         Fault::PROBES_REFUSALS,
+        Fault::CUT,
+        Fault::CUT_REFUSALS,
+        Fault::CHECKER,
+        Fault::LOG_LIMITS,
     ];
-    let by_logs = Fault::CHECKER.len() + Fault::LOG_LIMITS.len();
-    here.concat().len() + by_logs == Fault::ALL.len()
+    here.concat().len() == Fault::ALL.len()
 }
 
 /// The faults of both widths and those of one alone, in a width.
@@ -248,6 +272,12 @@ fn in_change(seed: u64, fault: Fault) -> Option<String> {
 fn in_probes(seed: u64, fault: Fault) -> Option<String> {
     let listed = probes::listed(fault).err();
     listed.or_else(|| probes::short(seed, fault).err())
+}
+
+/// The first difference from a fault of cut-down logs.
+fn in_cuts(seed: u64, fault: Fault) -> Option<String> {
+    let listed = cuts::refused(fault).and_then(|_| cuts::known(fault));
+    listed.and_then(|_| cuts::short(seed, fault)).err()
 }
 
 /// The second implementation with a fault.
