@@ -6,11 +6,11 @@
 #include <stdint.h>
 
 /*
- * The longest log that is read, in MiB: about ten million records. A longer one
+ * The longest log that is read, in MiB: about 2.6 million records. A longer one
  * cannot be cut down, but every block is looked at before its records are
  * counted, so that the bytes are all held at once.
  */
-enum { MOST_MEBIBYTES = 256 };
+enum { MOST_MEBIBYTES = 64 };
 
 struct input {
     const char *name; /* as messages call it */

@@ -48,15 +48,16 @@ static char *name_beside(const char *name)
     return beside;
 }
 
-/* Writes a file beside the named one, then gives it that name. */
-static void replace(const char *name, mode_t mode, const uint8_t *bytes, size_t length)
+/* Writes a file beside the one at path, then gives it that path. The name is for messages. */
+static void replace(const char *name, const char *path, mode_t mode, const uint8_t *bytes,
+                    size_t length)
 {
-    char *beside = name_beside(name);
+    char *beside = name_beside(path);
     int file = mkstemp(beside);
     if (file < 0)
         stop_at(name, errno);
     int wrong = write_all(file, bytes, length);
-    if (wrong == 0 && (chmod(beside, mode) != 0 || rename(beside, name) != 0))
+    if (wrong == 0 && (chmod(beside, mode) != 0 || rename(beside, path) != 0))
         wrong = errno;
     if (wrong != 0) {
         unlink(beside);
@@ -79,7 +80,7 @@ static void replace_old(const char *name, mode_t mode, const uint8_t *bytes, siz
     char *path = realpath(name, NULL);
     if (path == NULL || access(path, W_OK) != 0)
         stop_at(name, errno);
-    replace(path, mode, bytes, length);
+    replace(name, path, mode, bytes, length);
     free(path);
 }
 
@@ -95,7 +96,7 @@ void write_file(const char *name, const uint8_t *bytes, size_t length)
 {
     struct stat old;
     if (stat(name, &old) != 0)
-        replace(name, usual_mode(), bytes, length);
+        replace(name, name, usual_mode(), bytes, length);
     else if (S_ISREG(old.st_mode))
         replace_old(name, old.st_mode & 0777, bytes, length);
     else
