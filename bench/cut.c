@@ -204,7 +204,7 @@ static void print_heading(void)
     printf(" %8s\n", "a run");
 }
 
-/* Each kind, with few and many banks, a short and a long history, within an epoch and with a turn at each record. */
+/* Each kind, with 1 and 16 banks, a short and a long history, in one epoch and with a turn at each record. */
 static void measure_kinds(void)
 {
     static const uint64_t banks[] = {1, 16}, histories[] = {8, 4096};

@@ -50,12 +50,13 @@ def sizes():
     yield openings(65, answer=4)
     yield openings(81)
     yield log([record(3, answer=4)] + [record(4 + k, row=k) for k in range(60)])
-    yield log([record(0, bank=k, row=k + 1) for k in range(16)] + [record(200, bank=15, row=3, answer=2)], (*WIDE[:2], 1, *WIDE[3:7], 16, 1))
+    yield log([record(0, bank=bank, row=9) for bank in range(8)], WIDE)
 
 
 def settings():
     """Each refusal of a setting, with records that would differ."""
-    wrong = [(41, *S[1:]), (40, 1, 4, 20, 6, 60, 4, 1, 1), (40, 1, 4, 2, 21, 10, 4, 1, 1), (2 ** 20, 1, 1, 2, 1025, 10, 4, 1, 1), (*S[:5], 9, 4, 1, 1)]
+    wrong = [(41, *S[1:]), (40, 1, 4, 20, 6, 60, 4, 1, 1), (40, 1, 4, 2, 21, 10, 4, 1, 1), (2 ** 20, 1, 1, 2, 1025, 10, 4, 1, 1),
+             (*S[:5], 9, 4, 1, 1)]
     for setting in wrong:
         yield log([record(3, answer=4)], setting)
     yield log([record(3, answer=4)], (*S[:7], 5, 1), mark=1)

@@ -139,8 +139,8 @@ def why_refused(log):
         11: f"the log ends within block {log.block}, of which it has {len(data) % BLOCK} of 512 bytes",
         12: f"a sum of block {log.block} is wrong, so its bytes are not as they were written",
         13: f"block {log.block} is against the log format (docs/log-format.md)",
-        20: f"it has {len(log.records)} records, and at most 64 are cut down. Give a shorter log that still differs: if check-log says that "
-            "this one differs in block B, and B is at most 3, that is the one of its first 512 x (B + 1) bytes",
+        20: f"it has {len(log.records)} records, and at most 64 are cut down. Give a shorter log that still differs: if check-log says "
+            "that this one differs in block B, and B is at most 3, that is the one of its first 512 x (B + 1) bytes",
         21: "its records do not differ from the rules, so there is nothing to cut down. check-log says whether they agree or which refusal "
             "comes first",
     }[number]

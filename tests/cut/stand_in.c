@@ -134,7 +134,8 @@ static uint32_t check_blocks(const uint8_t *log, size_t length)
             return length == 0 && is_planted(empty_is_21) ? 21 : 11;
         if (!sums_are_right(block) && !is_planted(sums_not_looked_at))
             return 12;
-        if (!is_laid_out(block, number, number > 0 ? block[4 - BLOCK] : 0) && !is_planted(layout_not_looked_at))
+        uint8_t before = number > 0 ? block[4 - BLOCK] : 0;
+        if (!is_laid_out(block, number, before) && !is_planted(layout_not_looked_at))
             return 13;
         uint32_t code = number == 0 ? begin(block) : 0;
         if (code != 0)
@@ -154,6 +155,14 @@ static bool is_unlike(const uint8_t *r, const uint64_t out[THROTTLE_REQUEST_OUT]
            (load(r + 8, 8) != out[1] && !is_planted(wait_ignored));
 }
 
+/* Asks the model about a record. */
+static uint32_t ask(const uint8_t *r, uint64_t out[THROTTLE_REQUEST_OUT])
+{
+    if (r[20] == 1)
+        return throttle_done(STATE, load(r, 8), r[18], r[19]);
+    return throttle_request(STATE, load(r, 8), r[18], r[19], (uint16_t)load(r + 16, 2), out);
+}
+
 /* Whether a selection differs, by its first event. */
 static bool differs(uint64_t mask)
 {
@@ -161,14 +170,11 @@ static bool differs(uint64_t mask)
         abort();
     for (size_t i = 0; i < count; i++) {
         uint64_t out[THROTTLE_REQUEST_OUT] = {0};
-        const uint8_t *r = records[i];
         if ((mask >> i & 1) == 0)
             continue;
-        uint32_t code = r[20] == 0 ? throttle_request(STATE, load(r, 8), r[18], r[19], (uint16_t)load(r + 16, 2), out)
-                                   : throttle_done(STATE, load(r, 8), r[18], r[19]);
-        if (code != 0)
+        if (ask(records[i], out) != 0)
             return is_planted(refusal_differs);
-        if (is_unlike(r, out))
+        if (is_unlike(records[i], out))
             return true;
     }
     return false;
@@ -179,7 +185,8 @@ static uint64_t one_pass_over(uint64_t mask)
     for (size_t k = 0; k < count; k++) {
         size_t i = is_planted(from_last_to_first) ? count - 1 - k : k;
         uint64_t bit = UINT64_C(1) << i;
-        if ((i == 0 && is_planted(first_not_tried)) || (records[i][20] == 1 && is_planted(dones_stay)))
+        if ((i == 0 && is_planted(first_not_tried)) ||
+            (records[i][20] == 1 && is_planted(dones_stay)))
             continue;
         if ((mask & bit) != 0 && differs(mask & ~bit))
             mask &= ~bit;
@@ -216,7 +223,8 @@ static uint64_t in_order(uint64_t mask)
     return other;
 }
 
-uint32_t throttle_cut_down(const uint8_t *log, size_t log_len, uint64_t out[THROTTLE_LEAST THROTTLE_CUT_OUT])
+uint32_t throttle_cut_down(const uint8_t *log, size_t log_len,
+                           uint64_t out[THROTTLE_LEAST THROTTLE_CUT_OUT])
 {
     const char *answer = getenv("ANSWER");
     uint32_t code;
