@@ -4,21 +4,23 @@
 # wrong and ends the script.
 #   need_program NAME [FILE]    sets `product` to the path of the program NAME, which is built if it must be; to FILE if that is given
 #   need_archive NAME [FILE]    the same of the archive libNAME.a
+#   need_c_program NAME ARCHIVE...
+#                               the same of the program in C of programs/NAME, over these archives
 #   lock_target                 waits until no other process builds, and keeps others from it until
 #   unlock_target
 # Its variables are root, target, lock_file, lock, product, proof, record, build_command, members and parts.
 # A product that is up to date is taken as it is, without the lock and without rt. It is up to date if the crates that it is made of have
 # the files that they had when its last build began, each with the size and the time that it had then. If it was built by hand with rt, it
-# is up to date if it is newer than each of these files and of the folders they are in. A build that did not end well makes nothing up to
-# date. rt itself takes no lock.
+# is up to date if it is newer than each of these files and of the folders they are in. A program in C is made of its sources, the headers
+# and the archives. A build that did not end well makes nothing up to date. rt itself takes no lock.
 
 root=$(dirname "$(dirname "$(realpath "${BASH_SOURCE[0]}")")")
 target=$root/target
 # Beside target/ and not in it, as rt ci removes target/.
 lock_file=$root/target.lock
 
-# For each product there are in target/, under the name `record`: .out, what rt printed; .begun, the files as they were when a build began
-# that has not ended well; .files, the files as they were when the build began that made the product.
+# For each product there are in target/, under the name `record`: .out, what its build printed; .begun, the files as they were when a build
+# began that has not ended well; .files, the files as they were when the build began that made the product.
 need_program() {
     product=$target/bin/$1
     proof=$target/stamp/$1
@@ -33,6 +35,23 @@ need_archive() {
     record=$target/lib$1
     build_command=(rt staticlib "$1")
     need_product "$@"
+}
+
+need_c_program() {
+    local name=$1 archive archives=()
+    shift
+    for archive; do
+        need_archive "$archive"
+        archives+=("${product#"$root/"}")
+    done
+    product=$target/programs/$name
+    record=$target/${name//_/-}
+    parts=("programs/$name" include "${archives[@]}")
+    is_compiled && return
+    command -v "${CC:-gcc}" >/dev/null || fail "the C compiler ${CC:-gcc} is not installed"
+    lock_target
+    is_compiled || compile "programs/$name" "${archives[@]}"
+    unlock_target
 }
 
 need_product() {
@@ -55,11 +74,25 @@ is_up_to_date() {
     [ -e "$product" ] && [ ! -e "$record.begun" ] || return 1
     # A program that rt has linked and that then failed its run has no mark of its proof.
     [ -z "$proof" ] || [ -e "$proof" ] || return 1
-    if [ -e "$record.files" ] && [ ! "$product" -nt "$record.files" ]; then
-        found=$(list_files) && [ "$found" = "$(<"$record.files")" ]
+    if has_record; then
+        is_as_recorded
     else
         found=$(newer_than_product) && [ -z "$found" ]
     fi
+}
+
+# The product is of the build that the record is of, which ended well.
+has_record() {
+    [ -e "$product" ] && [ ! -e "$record.begun" ] && [ -e "$record.files" ] && [ ! "$product" -nt "$record.files" ]
+}
+
+is_compiled() {
+    has_record && is_as_recorded
+}
+
+is_as_recorded() {
+    local found
+    found=$(list_files) && [ "$found" = "$(<"$record.files")" ]
 }
 
 # Sets `members` to the crates that a crate is made of, itself among them. What crates.txt does not list is a library of the toolchain.
@@ -124,11 +157,22 @@ unlock_target() {
     exec {lock}>&-
 }
 
+# Before a build: a file for what it prints, and the record of the files.
+begin_build() {
+    mkdir -p "$target" 2>/dev/null || fail "$target cannot be made"
+    { : >"$record.out"; } 2>/dev/null || fail "$record.out cannot be written"
+    { list_files >"$record.begun"; } 2>/dev/null || fail "$record.begun cannot be written"
+}
+
+# After one that ended well. The record is not older than the product.
+end_build() {
+    touch "$record.begun"
+    mv "$record.begun" "$record.files"
+}
+
 build() {
     local output=$record.out shown=${product#"$root/"}
-    mkdir -p "$target" 2>/dev/null || fail "$target cannot be made"
-    { : >"$output"; } 2>/dev/null || fail "$output cannot be written"
-    { list_files >"$record.begun"; } 2>/dev/null || fail "$record.begun cannot be written"
+    begin_build
     # rt does not link again what it has marked as proved.
     [ -z "$proof" ] || [ -e "$product" ] || rm -f "$proof"
     printf '%s: proving and building %s, %d crates; the first time this takes minutes\n' "$0" "$shown" ${#members[@]} >&2 || true
@@ -137,9 +181,21 @@ build() {
         fail "$shown was not proved and built; $output has the whole output"
     fi
     [ -e "$product" ] || fail "rt has not built $shown"
-    # The record is not older than the product.
-    touch "$record.begun"
-    mv "$record.begun" "$record.files"
+    end_build
+}
+
+# Compiles the sources of a folder and links them with archives: compile FOLDER ARCHIVE...
+compile() {
+    local output=$record.out shown=${product#"$root/"} options=(-std=c11 -Wall -Wextra -O2 -Iinclude)
+    begin_build
+    mkdir -p "${product%/*}"
+    printf '%s: compiling %s\n' "$0" "$shown" >&2 || true
+    if ! (cd "$root" && "${CC:-gcc}" "${options[@]}" "$1"/*.c "${@:2}" -o "$shown.new") </dev/null >"$output" 2>&1; then
+        tail -n 5 "$output" >&2
+        fail "$shown was not compiled; $output has the whole output"
+    fi
+    mv "$product.new" "$product"
+    end_build
 }
 
 # Copies what rt prints to a file, and says on standard error how many crates are proved: on a terminal in one line, elsewhere in a line

@@ -4,7 +4,8 @@
 #   most          the most operands that the command takes, or nothing
 #   name          the command's name if it has a version to print, or nothing
 #   wrong_call    the status of a wrong call
-#   option        a function that takes an option of the command's own, or fails; if the command has any
+#   option        a function that takes an option of the command's own, or fails; if the command has any. It is given the option and the
+#                 words that follow, and sets `taken` to 2 where the next one belongs to it
 
 # Whatever ends a command ends it with this status, which stays 3 (it could not be done) until the command has its answer.
 status=3
@@ -66,10 +67,29 @@ read_options() {
                 [ -n "$name" ] || usage_error "unknown option $1"
                 answer "$name $(version)"
                 ;;
-            -?*) [ "$(type -t option)" = function ] && option "$1" || usage_error "unknown option $1" ;;
+            -?*)
+                taken=1
+                [ "$(type -t option)" = function ] && option "$@" || usage_error "unknown option $1"
+                shift $((taken - 1))
+                ;;
             *) operands+=("$1") ;;
         esac
         shift
     done
     [ ${#operands[@]} -le "${most:-${#operands[@]}}" ] || usage_error "too many arguments"
+}
+
+# Makes the file that is the first operand standard input, or leaves that as it is where there is no operand or it is -. `input` is then
+# what messages call it.
+open_input() {
+    input=${operands[0]--}
+    if [ "$input" = - ]; then
+        input="standard input"
+        [ -e /dev/stdin ] || fail "$input is closed"
+    else
+        [ -e "$input" ] || fail "$input: no such file"
+        [ -r "$input" ] || fail "$input: may not be read"
+        exec <"$input" || fail "$input: cannot be opened"
+    fi
+    [ ! -d /dev/stdin ] || fail "$input: is a directory"
 }

@@ -38,12 +38,14 @@ copy_tree() {
     need_archive plan
     need_archive probes
     need_archive hash_rows
+    need_archive log
+    need_archive cut_down
     work=$(mktemp -d "$source_tree/target/commands.XXXXXX")
     trap 'rm -rf "$work"' EXIT
     tree=$work/tree
     mkdir -p "$tree/target"
     local name
-    for name in check-log plan-settings test crates crates.txt tools include samples examples bench docs; do
+    for name in check-log cut-log plan-settings test crates crates.txt programs tools include samples examples bench docs; do
         cp -a "$source_tree/$name" "$tree"
     done
     for name in bin stamp staticlib; do

@@ -14,7 +14,7 @@ ROOT = Path(sys.argv[1]).resolve()
 # The most characters of a line; tables and code may have more, but not in README.md.
 LINE = {"README.md": 140, "CHANGELOG.md": 140, "CONTRIBUTING.md": 140}
 DOCS_LINE = 160
-ENDINGS = {".md", ".h", ".c", ".rs", ".py", ".rt", ".antt", ".txt", ".log", ".expected", ".trace", ".edit"}
+ENDINGS = {".md", ".h", ".c", ".rs", ".py", ".rt", ".antt", ".txt", ".log", ".expected", ".cut", ".trace", ".edit"}
 # Documents name what rt makes, and these are not files of the repository.
 MADE = {"target"}
 # The document whose names are those of theorems.
@@ -221,10 +221,11 @@ def version():
 
 
 def reports():
-    """A report that a document shows after '$ ./check-log LOG' is the one beside that log. README.md has one."""
+    """What a document shows after '$ ./check-log LOG' or '$ ./cut-log LOG' is what stands beside that log. README.md has a report."""
+    endings = {"check": "expected", "cut": "cut"}
     for document in DOCUMENTS:
         for at, line in enumerate(document.code):
-            asked = re.fullmatch(r"\$ \./check-log (samples/\S+)\.log", line)
+            asked = re.fullmatch(r"\$ \./(check|cut)-log (samples/\S+)\.log", line)
             if not asked:
                 continue
             count("reports", document.path == "README.md")
@@ -233,9 +234,9 @@ def reports():
                 if not printed or printed.startswith(("$", "```")):
                     break
                 shown.append(printed)
-            expected = Path(f"{asked[1]}.expected")
+            expected = Path(f"{asked[2]}.{endings[asked[1]]}")
             if not (ROOT / expected).exists() or read(expected) != "".join(f"{s}\n" for s in shown):
-                fault(f"{document.path}: the report shown of {asked[1]}.log is not {expected}")
+                fault(f"{document.path}: the report shown of {asked[2]}.log is not {expected}")
 
 
 def times():

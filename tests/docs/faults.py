@@ -59,6 +59,8 @@ FAULTS = [
     ("README.md", replaced(r"^records \d+$", "records 99"), "the report shown of"),
     ("README.md", replaced(r"^\$ \./check-log .*$", "$ ./check-log samples/controller.log"), "is not samples/controller.expected"),
     ("README.md", replaced(r"^\$ \./check-log .*$", ""), "there are no reports to look at"),
+    ("docs/cut-log.md", replaced(r"wait until 440$", "wait until 441"), "is not samples/cut-five.cut"),
+    ("docs/cut-log.md", replaced(r"^\$ \./cut-log .*$", "$ ./cut-log samples/cut-one.log"), "is not samples/cut-one.cut"),
     ("README.md", added("It takes 7 min 77 s."), "7 min 77 s is no time"),
 ]
 
