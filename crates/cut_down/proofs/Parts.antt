@@ -5,13 +5,11 @@ use mathlib.Core.Bool.{Bool, true, false, not}
 use Prim.Native.Nat.{ℕ, suc, _-_, _^_, _≤_, _<_}
 use native.Mathlib.Omega.{arith}
 use lib.ListN.{length, replicate, length-replicate}
-use Rattle.head.specs.declared.Head.{Head}
-use Rattle.rules.specs.State.{state}
 use Rattle.rules.specs.Policy.{limits01, narrow}
 use Rattle.log_format.specs.Bytes.{blockAt}
 use Rattle.log_format.specs.Refusals.{logRefusalNumber}
 use Rattle.log_format.specs.Claims.{recordsOf, WellFormed}
-use Rattle.selections.specs.Selections.{chosen, cutDown, word, bits}
+use Rattle.selections.specs.Selections.{cutDown, word, bits}
 use Rattle.selections.proofs.Words.{bits-all}
 use Rattle.selections.proofs.Chosen.{chosen-all}
 use Rattle.cut_verdict.specs.Cut.{logRefusal, differing, differsWith, Cut, refusedWith, keeps, cutOf, codeOf, outOf}
@@ -25,8 +23,8 @@ turned true c e = ap not e
 turned false c e = ap not e
 
 -- the call's own memory
-pub roomy-zeros : (h : Head) → Roomy limits01 (state h (replicate 32768 0) (replicate 4096 0) (replicate 4096 0) (replicate 1536 0))
-roomy-zeros h =
+pub roomy-zeros : Roomy limits01 (replicate 32768 0) (replicate 4096 0) (replicate 4096 0) (replicate 1536 0)
+roomy-zeros =
     record {
       counters = omega (arith, length-replicate {A = ℕ} 32768 0);
       ticks = omega (arith, length-replicate {A = ℕ} 4096 0);
@@ -58,12 +56,11 @@ module _ (bytes before : List ℕ) (code : ℕ) (told : code ≡ logRefusalNumbe
     pub leaves-many : 64 < n → Leaves bytes 20 before before
     leaves-many h = by-cut bytes (refusedWith 20) before (cut-many narrow bytes none (omega arith))
 
-    module _ (few : n ≤ 64) (start : List ℕ) (copied : start ≡ blockAt bytes 0) (all : ℕ) (ea : all ≡ 2 ^ n - 1) (d : Bool) (said : d ≡ differing narrow start (chosen (bits n all) (recordsOf bytes))) where
+    module _ (few : n ≤ 64) (all : ℕ) (ea : all ≡ 2 ^ n - 1) (d : Bool) (said : d ≡ differsWith narrow bytes (bits n all)) where
       -- all records differ or not
       whole : d ≡ differing narrow (blockAt bytes 0) (recordsOf bytes)
       whole =
-          said ∙ ap (λ (s : List ℕ). differing narrow s (chosen (bits n all) (recordsOf bytes))) copied
-          ∙ ap (λ (sel : List Bool). differing narrow (blockAt bytes 0) (chosen sel (recordsOf bytes))) (ap (bits n) ea ∙ bits-all n ∙ ap (λ (k : ℕ). replicate k true) en)
+          said ∙ ap (differsWith narrow bytes) (ap (bits n) ea ∙ bits-all n ∙ ap (λ (k : ℕ). replicate k true) en)
           ∙ ap (differing narrow (blockAt bytes 0)) (chosen-all (recordsOf bytes))
 
       pub leaves-same : d ≡ false → Leaves bytes 21 before before

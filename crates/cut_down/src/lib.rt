@@ -3,7 +3,6 @@
 use cut_passes::passes;
 use cut_refusal::log_refusal;
 use cut_run::differs;
-use log_block::block_at;
 ghost use mathlib.Core.Path.{_≡_};
 ghost use Prim.Native.Nat.{_^_, _-_, _≤_};
 ghost use Rattle.rules.specs.Policy.{narrow};
@@ -34,16 +33,12 @@ pub extern "C" fn throttle_cut_down(log: &[u8], out: &mut [u64; 1]) -> u32
     if n > 64 {
         return 20;
     }
-    let start = block_at(log, 0);
     let mut counters = [0u16; 32768];
     let mut ticks = [0u64; 4096];
     let mut rows = [0u32; 4096];
     let mut threads = [0u32; 1536];
-    let x = checker::start();
     let all = all_of(n);
     if !differs(
-        x,
-        &start,
         &mut counters,
         &mut ticks,
         &mut rows,
@@ -55,8 +50,6 @@ pub extern "C" fn throttle_cut_down(log: &[u8], out: &mut [u64; 1]) -> u32
         return 21;
     }
     let kept = passes(
-        x,
-        &start,
         &mut counters,
         &mut ticks,
         &mut rows,

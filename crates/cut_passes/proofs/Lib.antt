@@ -1,2 +1,2 @@
-pub mod Tries
+pub mod Numbers
 pub mod Buffers

@@ -21,7 +21,7 @@ use Rattle.cut_verdict.specs.Roomy.{Roomy}
 use Rattle.cut_verdict.proofs.Runs.{same-differs}
 use Rattle.cut_verdict.proofs.Anywhere.{differing-anywhere}
 
-module _ (x : Running) (s : List ℕ) (es : List Entry) (long : Roomy limits01 (x .state)) (b : Bool) (r : Report) (z : Running) (f : Follows b r z (judgeStart narrow x s)) where
+module _ (x : Running) (s : List ℕ) (es : List Entry) (long : Roomy limits01 (x .state .counters) (x .state .ticks) (x .state .rows) (x .state .threads)) (b : Bool) (r : Report) (z : Running) (f : Follows b r z (judgeStart narrow x s)) where
   abbrev later : Running → Step
   later y = judgeRecords narrow y es
 

@@ -26,7 +26,7 @@ use Rattle.cut_verdict.specs.Cut.{judgement, saysDiffers, differing}
 use Rattle.cut_verdict.specs.Roomy.{Roomy}
 use Rattle.cut_verdict.proofs.Runs.{same-differs}
 
-pub roomy-accepts : (m : Limits) (s : Setting) (seeds : List ℕ) (st : State) → Roomy m st → settingRefusal m s seeds ≡ none → setupRefusal m s seeds st ≡ none
+pub roomy-accepts : (m : Limits) (s : Setting) (seeds : List ℕ) (st : State) → Roomy m (st .counters) (st .ticks) (st .rows) (st .threads) → settingRefusal m s seeds ≡ none → setupRefusal m s seeds st ≡ none
 unfolding setupRefusal
 roomy-accepts m s seeds st long e =
     let ok = accepted m s seeds e in
@@ -45,7 +45,7 @@ refused-anywhere : (m : Limits) (s : Setting) (seeds : List ℕ) (st : State) �
 unfolding setupRefusal
 refused-anywhere m s seeds st n = rw (ne-eqb (refusalNumber (settingRefusal m s seeds)) 0 n)
 
-pub differing-anywhere : (p : Policy) → UsedFlying p → (x : Running) (s : List ℕ) (es : List Entry) → Roomy (p .limits) (x .state)
+pub differing-anywhere : (p : Policy) → UsedFlying p → (x : Running) (s : List ℕ) (es : List Entry) → Roomy (p .limits) (x .state .counters) (x .state .ticks) (x .state .rows) (x .state .threads)
     → saysDiffers (andThen (judgeStart p x s) (λ (y : Running). judgeRecords p y es)) ≡ differing p s es
 unfolding differing judgement judgeStart unread
 differing-anywhere p fly x s es long = go (ℕ-discrete (refusalNumber (settingRefusal m (settingIn s) (seedsIn s))) 0)

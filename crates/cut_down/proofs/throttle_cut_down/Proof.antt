@@ -11,9 +11,9 @@ use borrow.Author.Needs.{needs}
 use Rattle.cut_down.proofs.throttle_cut_down.Statement.{statement}
 use Rattle.cut_down.proofs.throttle_cut_down.Tie as tie
 
--- the way back: from the run of all records to block 0, from there to the refusals of the log, and to the start
-abbrev copied : tie.After-differs → tie.After-block-at
-copied c = (c .before .before .before .before .before .before .before .before)
+-- the way back: from the run of all records to their number, from there to the refusals of the log, and to the start
+abbrev few : tie.After-differs → tie.Else2
+few c = (c .before .before .before .before .before .before)
 
 abbrev refused : tie.Else2 → tie.After-log-refusal
 refused c = (c .before .before .before)
@@ -47,12 +47,6 @@ returns-2 c =
     let a = begun r .args in
     leaves-many (a .log .now) (a .out .now) (q .result .code) (q .ensures .0) (c .before .if1 .left) (q .result .records) (q .ensures .1 (c .before .if1 .left)) (c .if2 .taken)
 
-block-at-requires : tie.Need-block-at-requires
-block-at-requires c κs = let w = formed c .some in omega arith
-
-start-requires : tie.Need-start-requires
-start-requires c κs = search needs
-
 all-of-requires : tie.Need-all-of-requires
 all-of-requires c κs = search needs
 
@@ -69,20 +63,17 @@ slice-aggregate-differs-4 : tie.Need-slice-aggregate-differs-4
 slice-aggregate-differs-4 c = search needs
 
 differs-requires : tie.Need-differs-requires
-differs-requires c κs =
-    let e = c .before .before .before .before .before .before .before .before in
-    (roomy-zeros (c .before .before .before .before .before .before .start .result .head), formed e, counted e, omega (arith, e .if2 .left))
+differs-requires c κs = let e = c .before .before .before .before .before in (roomy-zeros, formed e, counted e, omega (arith, e .if2 .left))
 
 returns-3 : tie.Need-returns-3
 returns-3 c =
     let at = c .before .before .before .before .before in
-    let e = copied at .before in
-    let r = refused e in
-    let q = r .log-refusal in
-    let a = begun r .args in
-    let all = at .before .before .before .before .before .before .all-of in
-    leaves-same (a .log .now) (a .out .now) (q .result .code) (q .ensures .0) (e .before .if1 .left) (q .result .records) (counted e) (omega (arith, e .if2 .left)) (copied at .block-at .result)
-    (copied at .block-at .ensures) (all .result) (all .ensures) (at .differs .result) (at .differs .ensures) (turned (at .differs .result) true (c .if3 .taken))
+    let e = few at in
+    let q = refused e .log-refusal in
+    let a = begun (refused e) .args in
+    let all = at .before .before .before .before .before .all-of in
+    leaves-same (a .log .now) (a .out .now) (q .result .code) (q .ensures .0) (e .before .if1 .left) (q .result .records) (counted e) (omega (arith, e .if2 .left)) (all .result) (all .ensures)
+    (at .differs .result) (at .differs .ensures) (turned (at .differs .result) true (c .if3 .taken))
 
 slice-aggregate-passes : tie.Need-slice-aggregate-passes
 slice-aggregate-passes c = search needs
@@ -98,29 +89,21 @@ slice-aggregate-passes-4 c = search needs
 
 passes-requires : tie.Need-passes-requires
 passes-requires c κs =
-    let at = c .before .before .before .before .before .before .before .before .before .before in
-    let kept = at .differs .kept .1 .1 in
-    let e = copied at .before in
-    let h = at .before .before .before .before .before .before .before .start .result .head in (
-      roomy-kept limits01 h _ _ _ _ _ _ _ _ (roomy-zeros h) (kept .0) (kept .1 .0) (kept .1 .1 .0) (kept .1 .1 .1 .0),
-      formed e,
-      counted e,
-      omega (arith, e .if2 .left),
-      copied at .block-at .ensures,
-      at .before .before .before .before .before .before .all-of .ensures,
-    )
+    let at = c .before .before .before .before .before .before .before .before .before in
+    let kept = at .differs .kept in
+    let e = few at in
+    (roomy-kept limits01 _ _ _ _ _ _ _ _ roomy-zeros (kept .0) (kept .1 .0) (kept .1 .1 .0) (kept .1 .1 .1 .0), formed e, counted e, omega (arith, e .if2 .left), at .before .before .before .before .before .all-of .ensures)
 
 returns-4 : tie.Need-returns-4
 returns-4 c =
-    let at = c .before .before .before .before .before .before .before .before .before .before .before .before .before .before .before .before in
-    let e = copied at .before in
-    let r = refused e in
-    let q = r .log-refusal in
-    let a = begun r .args in
-    let all = at .before .before .before .before .before .before .all-of in
+    let at = c .before .before .before .before .before .before .before .before .before .before .before .before .before .before .before in
+    let e = few at in
+    let q = refused e .log-refusal in
+    let a = begun (refused e) .args in
+    let all = at .before .before .before .before .before .all-of in
     let p = c .before .before .before .before .before .passes in
-    leaves-kept (a .log .now) (a .out .now) (q .result .code) (q .ensures .0) (e .before .if1 .left) (q .result .records) (counted e) (omega (arith, e .if2 .left)) (copied at .block-at .result)
-    (copied at .block-at .ensures) (all .result) (all .ensures) (at .differs .result) (at .differs .ensures) (turned (at .differs .result) false (c .before .before .before .before .before .before .before .before .before .before .before .if3 .left)) (p .result) (p .ensures)
+    leaves-kept (a .log .now) (a .out .now) (q .result .code) (q .ensures .0) (e .before .if1 .left) (q .result .records) (counted e) (omega (arith, e .if2 .left)) (all .result) (all .ensures)
+    (at .differs .result) (at .differs .ensures) (turned (at .differs .result) false (c .before .before .before .before .before .before .before .before .before .before .if3 .left)) (p .result) (p .ensures)
 
 pub throttle-cut-down-spec : {M : Type 1} → statement M
 throttle-cut-down-spec =
@@ -129,8 +112,6 @@ throttle-cut-down-spec =
     log-refusal-requires
     returns
     returns-2
-    block-at-requires
-    start-requires
     all-of-requires
     slice-aggregate-differs
     slice-aggregate-differs-2

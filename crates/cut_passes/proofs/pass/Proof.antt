@@ -6,14 +6,14 @@ use lib.ListN.{length}
 use Rattle.rules.specs.Policy.{limits01, narrow}
 use Rattle.selections.specs.Selections.{triedFrom, bits}
 use Rattle.cut_verdict.specs.Cut.{differsWith}
-use Rattle.cut_passes.proofs.Tries.{from-none, from-next, from-all}
+use Rattle.cut_passes.proofs.Numbers.{from-none, from-next, from-all}
 use Rattle.cut_passes.proofs.Buffers.{roomy-kept}
 use borrow.Author.Needs.{needs}
 use Rattle.cut_passes.proofs.pass.Statement.{statement}
 use Rattle.cut_passes.proofs.pass.Tie as tie
 
 abbrev Inv-loop : tie.InvT-loop
-Inv-loop x start counters₀ ticks₀ rows₀ threads₀ bytes n kept left₀ i₀ counters ticks rows threads left i =
+Inv-loop counters₀ ticks₀ rows₀ threads₀ bytes n kept left₀ i₀ counters ticks rows threads left i =
     (length counters ≡ length counters₀)
     × (length ticks ≡ length ticks₀)
     × (length rows ≡ length rows₀)
@@ -23,7 +23,7 @@ Inv-loop x start counters₀ ticks₀ rows₀ threads₀ bytes n kept left₀ i�
     × (bits n left ≡ triedFrom (differsWith narrow bytes) 0 i (bits n kept))
 
 abbrev μ-loop : tie.MeasureT-loop
-μ-loop x start counters₀ ticks₀ rows₀ threads₀ bytes n kept left₀ i₀ counters ticks rows threads left i = n - i
+μ-loop counters₀ ticks₀ rows₀ threads₀ bytes n kept left₀ i₀ counters ticks rows threads left i = n - i
 
 -- the way back to the start: from the loop, and from a try
 abbrev begun : tie.At-loop Inv-loop μ-loop → tie.Start Inv-loop μ-loop
@@ -44,7 +44,7 @@ attempt-requires c κs =
     let b = begun (t .before) in
     let p = b .pre in
     let i = l .inv in
-    (roomy-kept limits01 (b .args .x .head) _ _ _ _ _ _ _ _ (p .0) (i .0) (i .1) (i .2) (i .3), p .1, p .2, p .3, p .4, t .loop-test .taken)
+    (roomy-kept limits01 _ _ _ _ _ _ _ _ (p .0) (i .0) (i .1) (i .2) (i .3), p .1, p .2, p .3, t .loop-test .taken)
 
 add-i : tie.Need-add-i Inv-loop μ-loop
 add-i c = let t = tested (c .before .before .before .before .before .before .before .before) in omega (arith, t .loop-test .taken)
@@ -56,7 +56,7 @@ loop-again : tie.Need-loop-again Inv-loop μ-loop
 loop-again c =
     let at = c .before .before .before .before .before .before .before .before in
     let q = at .attempt in
-    let kept = q .kept .1 .1 in
+    let kept = q .kept in
     let t = tested at in
     let l = t .before .loop in
     let i = l .inv in

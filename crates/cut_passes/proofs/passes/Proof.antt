@@ -7,14 +7,14 @@ use Rattle.rules.specs.Policy.{limits01, narrow}
 use Rattle.selections.specs.Selections.{bits}
 use Rattle.selections.proofs.Passes.{Settles}
 use Rattle.cut_verdict.specs.Cut.{differsWith}
-use Rattle.cut_passes.proofs.Tries.{start, below, more, done}
+use Rattle.cut_passes.proofs.Numbers.{start, below, more, done}
 use Rattle.cut_passes.proofs.Buffers.{roomy-kept}
 use borrow.Author.Needs.{needs}
 use Rattle.cut_passes.proofs.passes.Statement.{statement}
 use Rattle.cut_passes.proofs.passes.Tie as tie
 
 abbrev Inv-loop : tie.InvT-loop
-Inv-loop x start counters₀ ticks₀ rows₀ threads₀ bytes n all kept₀ counters ticks rows threads kept =
+Inv-loop counters₀ ticks₀ rows₀ threads₀ bytes n all kept₀ counters ticks rows threads kept =
     (length counters ≡ length counters₀)
     × (length ticks ≡ length ticks₀)
     × (length rows ≡ length rows₀)
@@ -23,7 +23,7 @@ Inv-loop x start counters₀ ticks₀ rows₀ threads₀ bytes n all kept₀ cou
     × Settles (differsWith narrow bytes) n (bits n kept)
 
 abbrev μ-loop : tie.MeasureT-loop
-μ-loop x start counters₀ ticks₀ rows₀ threads₀ bytes n all kept₀ counters ticks rows threads kept = kept
+μ-loop counters₀ ticks₀ rows₀ threads₀ bytes n all kept₀ counters ticks rows threads kept = kept
 
 -- the way back from a pass
 abbrev looped : tie.After-pass Inv-loop μ-loop → tie.At-loop Inv-loop μ-loop
@@ -36,7 +36,7 @@ loop-holds : tie.Need-loop-holds Inv-loop μ-loop
 loop-holds c =
     let b = c .before .before .before .before .before in
     let a = b .args in
-    (refl, refl, refl, refl, below (a .n) (a .all) (b .pre .5), start (differsWith narrow (a .bytes .now)) (a .n) (a .all) (b .pre .5))
+    (refl, refl, refl, refl, below (a .n) (a .all) (b .pre .4), start (differsWith narrow (a .bytes .now)) (a .n) (a .all) (b .pre .4))
 
 pass-requires : tie.Need-pass-requires Inv-loop μ-loop
 pass-requires c κs =
@@ -44,7 +44,7 @@ pass-requires c κs =
     let b = begun l in
     let p = b .pre in
     let i = l .loop .inv in
-    (roomy-kept limits01 (b .args .x .head) _ _ _ _ _ _ _ _ (p .0) (i .0) (i .1) (i .2) (i .3), p .1, p .2, p .3, p .4)
+    (roomy-kept limits01 _ _ _ _ _ _ _ _ (p .0) (i .0) (i .1) (i .2) (i .3), p .1, p .2, p .3)
 
 same-length : tie.Need-same-length Inv-loop μ-loop
 same-length c = search needs
@@ -73,7 +73,7 @@ loop-again : tie.Need-loop-again Inv-loop μ-loop
 loop-again c =
     let at = c .before .before .before .before .before .before .before .before .before in
     let q = at .pass in
-    let kept = q .kept .1 .1 in
+    let kept = q .kept in
     let l = looped at .loop in
     let i = l .inv in
     let a = begun (looped at) .args in (

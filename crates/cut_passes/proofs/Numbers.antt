@@ -1,42 +1,21 @@
--- Tries and passes over a number whose bits are a selection.
+-- Passes over a number whose bits are a selection.
 use mathlib.Core.Path.{_≡_, refl, sym, ap, _∙_, subst}
 use mathlib.Core.List.{List}
-use mathlib.Core.Bool.{Bool, true, false}
-use Prim.Native.Nat.{ℕ, zero, suc, _+_, _-_, _*_, _/_, _%_, _^_, _≤_, _<_}
+use mathlib.Core.Bool.{Bool}
+use Prim.Native.Nat.{ℕ, _+_, _-_, _^_, _≤_, _<_}
 use native.Mathlib.Omega.{arith}
 use native.Mathlib.Nat.{zero-add}
 use native.Mathlib.Numerals.{add-one}
-use lib.ListN.{length, replicate}
 use lib.Pow.{pow-pos}
-use borrow.Author.Tests.{eq-eqb, ne-eqb}
-use Rattle.selections.specs.Selections.{stays, without, tried, triedFrom, pass, passes, cutDown, word, bits}
-use Rattle.selections.proofs.Words.{bits-length, bits-stays, bits-less, bits-all, word-bits, same-bits}
-use Rattle.selections.proofs.Passes.{tried-gone, tried-out, tried-needed, from-more, Settles, settles-start, settles-more, settles-end}
+use Rattle.selections.specs.Selections.{tried, triedFrom, pass, cutDown, word, bits}
+use Rattle.selections.proofs.Words.{bits-length, bits-all, word-bits, same-bits}
+use Rattle.selections.proofs.Passes.{from-more, Settles, settles-start, settles-more, settles-end}
 
 -- all n records are a number of n bits
 pub below : (n all : ℕ) → all ≡ 2 ^ n - 1 → all < 2 ^ n
 below n all e = omega (arith, pow-pos n)
 
 module _ (test : List Bool → Bool) (n : ℕ) where
-  -- ---- one try
-
-  module _ (i m : ℕ) (h : i < n) where
-    pub try-gone : m / 2 ^ i % 2 ≡ 0 → bits n m ≡ tried test i (bits n m)
-    try-gone e = sym (tried-gone test i (bits n m) (bits-stays n m i h ∙ ne-eqb (m / 2 ^ i % 2) 1 (λ z. omega arith)))
-
-    module _ (some : m / 2 ^ i % 2 ≡ 0 → ⊥) where
-      here : m / 2 ^ i % 2 ≡ 1
-      here = omega (arith, some)
-
-      there : stays (bits n m) i ≡ true
-      there = bits-stays n m i h ∙ eq-eqb (m / 2 ^ i % 2) 1 here
-
-      pub try-out : test (bits n (m - 2 ^ i)) ≡ true → bits n (m - 2 ^ i) ≡ tried test i (bits n m)
-      try-out e = let l = bits-less n m i h here in l ∙ sym (tried-out test i (bits n m) there (ap test (sym l) ∙ e))
-
-      pub try-needed : test (bits n (m - 2 ^ i)) ≡ false → bits n m ≡ tried test i (bits n m)
-      try-needed e = sym (tried-needed test i (bits n m) there (ap test (sym (bits-less n m i h here)) ∙ e))
-
   -- ---- a pass
 
   -- after the tries of the first i records

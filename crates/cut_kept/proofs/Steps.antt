@@ -11,7 +11,7 @@ use borrow.Author.Tests.{eq-eqb, ne-eqb}
 use Rattle.selections.specs.Selections.{stays, chosen, bits}
 use Rattle.selections.proofs.Words.{bits-stays}
 use Rattle.selections.proofs.Chosen.{chosen-past}
-use Rattle.cut_run.specs.Kept.{NextKept}
+use Rattle.cut_kept.specs.Kept.{NextKept}
 
 -- ---- the search
 

@@ -13,11 +13,11 @@ use Rattle.selections.specs.Selections.{chosen, bits}
 use Rattle.selections.proofs.Words.{bits-length}
 use Rattle.cut_verdict.specs.Cut.{saysDiffers}
 use Rattle.cut_verdict.proofs.Places.{record-placed}
-use Rattle.cut_run.specs.Kept.{noneJudged}
-use Rattle.cut_run.proofs.Sofar.{Sofar, sofar-none, sofar-room, sofar-over, sofar-more, sofar-end}
+use Rattle.cut_kept.specs.Kept.{noneJudged}
+use Rattle.cut_kept.proofs.Sofar.{Sofar, sofar-none, sofar-room, sofar-over, sofar-more, sofar-end}
 use borrow.Author.Needs.{needs}
-use Rattle.cut_run.proofs.judge_kept.Statement.{statement}
-use Rattle.cut_run.proofs.judge_kept.Tie as tie
+use Rattle.cut_kept.proofs.judge_kept.Statement.{statement}
+use Rattle.cut_kept.proofs.judge_kept.Tie as tie
 
 abbrev Inv-loop : tie.InvT-loop
 Inv-loop s table seeds counters₀ ticks₀ rows₀ threads₀ bytes n kept progress₀ head₀ i₀ counters ticks rows threads progress head i =

@@ -1,18 +1,15 @@
 -- `attempt`: each return is a case of a try.
 use mathlib.Core.Path.{_≡_, sym, ap, _∙_}
-use mathlib.Core.List.{List}
-use mathlib.Core.Bool.{Bool}
-use Prim.Native.Nat.{ℕ, _-_, _%_, _*_, _^_, _<_}
+use Prim.Native.Nat.{ℕ, _-_, _%_, _*_, _^_}
 use native.Mathlib.Omega.{arith}
 use Rattle.rules.specs.Policy.{narrow}
-use Rattle.log_format.specs.Claims.{recordsOf}
-use Rattle.selections.specs.Selections.{chosen, bits}
+use Rattle.selections.specs.Selections.{bits}
 use Rattle.selections.proofs.Words.{bit-is, bit-le}
-use Rattle.cut_verdict.specs.Cut.{differing, differsWith}
-use Rattle.cut_passes.proofs.Tries.{try-gone, try-out, try-needed}
+use Rattle.cut_verdict.specs.Cut.{differsWith}
+use Rattle.cut_try.proofs.Tries.{try-gone, try-out, try-needed}
 use borrow.Author.Needs.{needs}
-use Rattle.cut_passes.proofs.attempt.Statement.{statement}
-use Rattle.cut_passes.proofs.attempt.Tie as tie
+use Rattle.cut_try.proofs.attempt.Statement.{statement}
+use Rattle.cut_try.proofs.attempt.Tie as tie
 
 -- the way back to the start: from the bit, and from the run without the record
 abbrev begun : tie.Else1 → tie.Start
@@ -23,7 +20,7 @@ some c = (c .before .before .before .before .before)
 
 -- the number of bit i
 bit : (c : tie.Start) → 1 * 2 ^ c .args .i % 2 ^ 64 ≡ 2 ^ c .args .i
-bit c = bit-is (c .args .i) (omega (arith, c .pre .3, c .pre .5))
+bit c = bit-is (c .args .i) (omega (arith, c .pre .3, c .pre .4))
 
 -- what the run says of the others
 says : (c : tie.After-differs)
@@ -32,10 +29,7 @@ says : (c : tie.After-differs)
 says c =
     let b = begun (some c) in
     let a = b .args in
-    let rs = recordsOf (a .bytes .now) in
-    c .differs .ensures
-    ∙ ap (λ (s : List ℕ). differing narrow s (chosen (bits (a .n) (a .kept - 1 * 2 ^ a .i % 2 ^ 64)) rs)) (b .pre .4)
-    ∙ ap (λ (w : ℕ). differsWith narrow (a .bytes .now) (bits (a .n) (a .kept - w))) (bit b)
+    c .differs .ensures ∙ ap (λ (w : ℕ). differsWith narrow (a .bytes .now) (bits (a .n) (a .kept - w))) (bit b)
 
 shr-shifted : tie.Need-shr-shifted
 shr-shifted c = search needs
@@ -44,7 +38,7 @@ returns : tie.Need-returns
 returns c =
     let b = c .before .before .before .before .before .before in
     let a = b .args in
-    (try-gone (differsWith narrow (a .bytes .now)) (a .n) (a .i) (a .kept) (b .pre .5) (c .if1 .taken), omega arith)
+    (try-gone (differsWith narrow (a .bytes .now)) (a .n) (a .i) (a .kept) (b .pre .4) (c .if1 .taken), omega arith)
 
 shl-bit : tie.Need-shl-bit
 shl-bit c = search needs
@@ -73,7 +67,7 @@ returns-2 c =
     let b = begun (some at) in
     let a = b .args in (
       ap (λ (w : ℕ). bits (a .n) (a .kept - w)) (bit b)
-          ∙ try-out (differsWith narrow (a .bytes .now)) (a .n) (a .i) (a .kept) (b .pre .5) (some at .if1 .left) (sym (says at) ∙ c .if2 .taken),
+          ∙ try-out (differsWith narrow (a .bytes .now)) (a .n) (a .i) (a .kept) (b .pre .4) (some at .if1 .left) (sym (says at) ∙ c .if2 .taken),
       omega arith,
     )
 
@@ -94,7 +88,7 @@ returns-3 c =
     let at = c .before .before .before .before .before .before .before .before .before in
     let b = begun (some at) in
     let a = b .args in
-    (try-needed (differsWith narrow (a .bytes .now)) (a .n) (a .i) (a .kept) (b .pre .5) (some at .if1 .left) (sym (says at) ∙ c .if2 .left), omega arith)
+    (try-needed (differsWith narrow (a .bytes .now)) (a .n) (a .i) (a .kept) (b .pre .4) (some at .if1 .left) (sym (says at) ∙ c .if2 .left), omega arith)
 
 pub attempt-spec : {M : Type 1} → statement M
 attempt-spec =
