@@ -62,7 +62,7 @@ fn run() -> Report
     let mut ticks = [0u64; 4096];
     let mut rows = [0u32; 4096];
     let mut threads = [0u32; 1536];
-    let mut x = checker::start();
+    let mut x = checker_unread::start();
     loop {
         let filled = input::fill(&mut block);
         let r = judge_filled(

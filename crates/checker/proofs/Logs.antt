@@ -31,19 +31,6 @@ unfolding judgeBlocks
 unread-blocks x [] whole e m = rw e
 unread-blocks x (s ∷ ss) whole e m = rw (unread-block x s e m)
 
-pub start-ready : (x : Running) → x .progress ≡ (unread limits01) .progress → Ready x
-unfolding unread
-start-ready x e =
-    let z : x .progress .blocks ≡ 0 = ap (λ p. p .blocks) e in
-    let r : x .progress .records ≡ 0 = ap (λ p. p .records) e in
-    let o : x .progress .opened ≡ 0 = ap (λ p. p .opened) e in
-    record {
-      blocks = omega arith;
-      records = omega arith;
-      opened = omega arith;
-      model = λ k. absurd (omega arith);
-    }
-
 -- a fresh head and buffers of zeros are the memory of the definition
 pub start-memory : (h : Head) → h ≡ freshHead
     → state h ((memory limits01) .counters) ((memory limits01) .ticks) ((memory limits01) .rows) ((memory limits01) .threads) ≡ memory limits01

@@ -1,7 +1,7 @@
 // One run of a selection: the model is set up anew with the setting and the seeds of block 0, and the records that stay are judged. Set-up and the judging
 // are called only through their contracts.
-use checker::start;
 use checker_start::judge_start;
+use checker_unread::start;
 use cut_kept::judge_kept;
 use log_block::block_at;
 ghost use mathlib.Core.Path.{_≡_};

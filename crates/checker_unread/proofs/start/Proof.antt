@@ -4,9 +4,9 @@ use mathlib.Core.Bool.{false}
 use Rattle.rules.specs.State.{freshHead}
 use Rattle.log_format.specs.Verdict.{unread}
 use Rattle.judged.proofs.Steps.{not-both}
-use Rattle.checker.proofs.Logs.{start-ready}
-use Rattle.checker.proofs.start.Statement.{statement}
-use Rattle.checker.proofs.start.Tie as tie
+use Rattle.checker_unread.proofs.Unread.{start-ready}
+use Rattle.checker_unread.proofs.start.Statement.{statement}
+use Rattle.checker_unread.proofs.start.Tie as tie
 
 returns : tie.Need-returns
 unfolding unread freshHead
