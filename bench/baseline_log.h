@@ -8,19 +8,9 @@
 #define BASELINE_LOG_H
 
 #include "baseline.c"
+#include "log_bytes.h"
 
-enum {
-    BLOCK = 512,
-    BODY = 8,
-    SUMS = 508,
-    MODULUS = 65521,
-    RECORD = 24,
-    RECORDS = 20,
-    NUMBERS = 9, /* words of the setting that block 0 has in 32 bits: all but the profile mark */
-    SEEDS_AT = BODY + NUMBERS * 4,
-    MARK_AT = SEEDS_AT + THROTTLE_SEEDS * 2,
-    LOGGED = 2 /* words of out that a log has: answer and wait tick */
-};
+enum { LOGGED = 2 }; /* words of out that a log has: answer and wait tick */
 
 static struct rules rules;
 static uint16_t seeds[THROTTLE_SEEDS];

@@ -8,23 +8,20 @@
  * records to be judged, under two settings. All builds must answer alike, in
  * every round and on logs of the search.
  */
-#define _POSIX_C_SOURCE 199309L
+#include "beside.h"
 #include "cut_logs.h"
 
 #include <inttypes.h>
 #include <stdio.h>
-#include <stdlib.h>
-#include <time.h>
 
 CUT_DECLARE(o2);
 CUT_DECLARE(o3);
 CUT_DECLARE(native);
 
-enum { LIBRARY, O2, O3, NATIVE, BUILDS };
-enum { MOST_ROUNDS = 1000, SAME_EVERY = 16 };
+/* Every so many logs of the search are given to all builds. */
+enum { SAME_EVERY = 16 };
 
-static const char *const names[BUILDS] = {"library", "gcc -O2", "gcc -O3", "-march=native"};
-static const char *const ratios[BUILDS] = {"", "/ -O2", "/ -O3", "/ native"};
+static const struct columns times = {8, 8, 0}, ratios = {6, 6, 2};
 
 typedef uint32_t cut_call(const uint8_t *, size_t, uint64_t[THROTTLE_LEAST THROTTLE_CUT_OUT]);
 
@@ -43,29 +40,8 @@ struct answer {
 
 static uint8_t bytes[CUT_LOG_BYTES];
 static size_t length, rounds;
-static double spent[BUILDS][MOST_ROUNDS];
-
-static _Noreturn void fail(const char *what)
-{
-    fprintf(stderr, "bench: %s\n", what);
-    exit(1);
-}
-
-static uint64_t next_random(void)
-{
-    static uint64_t x = 88172645463325252u;
-    x ^= x << 13;
-    x ^= x >> 7;
-    x ^= x << 17;
-    return x;
-}
-
-static double microseconds(void)
-{
-    struct timespec t;
-    clock_gettime(CLOCK_MONOTONIC, &t);
-    return (double)t.tv_sec * 1e6 + (double)t.tv_nsec / 1e3;
-}
+/* What all builds answer to the log that is measured. */
+static struct answer measured;
 
 /* The word of out holds a pattern that shows where it is not written. */
 static struct answer ask(size_t build)
@@ -124,33 +100,12 @@ static struct cut_log search(size_t steps)
     return best;
 }
 
-static int by_size(const void *x, const void *y)
+/* Microseconds of a build. */
+static double time_build(size_t build)
 {
-    double a = *(const double *)x, b = *(const double *)y;
-    return (a > b) - (a < b);
-}
-
-/* The least and the median of a build's times, or of their ratios to those of another. */
-static void print_pair(size_t build, size_t other)
-{
-    double values[MOST_ROUNDS], least[2] = {spent[build][0], spent[other][0]};
-    for (size_t r = 0; r < rounds; r++) {
-        values[r] = build == other ? spent[build][r] : spent[build][r] / spent[other][r];
-        least[0] = spent[build][r] < least[0] ? spent[build][r] : least[0];
-        least[1] = spent[other][r] < least[1] ? spent[other][r] : least[1];
-    }
-    qsort(values, rounds, sizeof *values, by_size);
-    if (build == other)
-        printf(" %8.0f %8.0f", least[0], values[rounds / 2]);
-    else
-        printf(" %6.2f %6.2f", least[0] / least[1], values[rounds / 2]);
-}
-
-static double time_build(size_t build, struct answer wanted)
-{
-    double begin = microseconds();
-    must_be(ask(build), wanted);
-    return microseconds() - begin;
+    double begin = nanoseconds();
+    must_be(ask(build), measured);
+    return (nanoseconds() - begin) / 1e3;
 }
 
 /* How many bits are set. */
@@ -162,45 +117,27 @@ static unsigned ones(uint64_t x)
     return n;
 }
 
-/* Measures a log and prints a line. A first round is not counted. */
+/* Measures a log and prints a line. */
 static void measure(const char *kind, const struct cut_log *log, const char *gap)
 {
     struct cut_work work = take(log, 1);
-    struct answer wanted = ask(LIBRARY);
-    if (wanted.code != 0)
+    measured = ask(LIBRARY);
+    if (measured.code != 0)
         fail("a log that is measured is refused");
-    for (size_t b = 0; b < BUILDS; b++)
-        time_build(b, wanted);
-    for (size_t r = 0; r < rounds; r++)
-        for (size_t k = 0; k < BUILDS; k++) {
-            size_t b = (k + r) % BUILDS;
-            spent[b][r] = time_build(b, wanted);
-        }
+    take_times(rounds, time_build);
     printf("%-13s %5" PRIu64 " %5zu %-5s %4u %5" PRIu64 " %7" PRIu64, kind, log->setting.banks,
-           throttle_history_cells(&log->setting), gap, ones(wanted.mask), work.runs, work.records);
-    for (size_t b = 0; b < BUILDS; b++)
-        print_pair(b, b);
-    for (size_t b = 1; b < BUILDS; b++)
-        print_pair(LIBRARY, b);
-    double best = spent[LIBRARY][0];
-    for (size_t r = 1; r < rounds; r++)
-        best = spent[LIBRARY][r] < best ? spent[LIBRARY][r] : best;
-    printf(" %8.2f\n", best / (double)work.runs);
+           throttle_history_cells(&log->setting), gap, ones(measured.mask), work.runs, work.records);
+    print_times(&times, &ratios);
+    printf(" %8.2f\n", best_time(LIBRARY) / (double)work.runs);
     fflush(stdout);
 }
 
 static void print_heading(void)
 {
     printf("%-50s", "");
-    for (size_t b = 0; b < BUILDS; b++)
-        printf(" %17s", names[b]);
-    for (size_t b = 1; b < BUILDS; b++)
-        printf(" %13s", ratios[b]);
+    print_builds(&times, &ratios);
     printf("\n%-13s %5s %5s %-5s %4s %5s %7s", "log", "banks", "H", "gap", "kept", "runs", "records");
-    for (size_t b = 0; b < BUILDS; b++)
-        printf(" %8s %8s", "best", "median");
-    for (size_t b = 1; b < BUILDS; b++)
-        printf(" %6s %6s", "best", "median");
+    print_columns(&times, &ratios);
     printf(" %8s\n", "a run");
 }
 
@@ -219,21 +156,13 @@ static void measure_kinds(void)
             }
 }
 
-static size_t number(const char *word, unsigned long most)
-{
-    char *end;
-    unsigned long x = strtoul(word, &end, 10);
-    if (*word < '0' || *word > '9' || *end != '\0' || x > most)
-        fail("STEPS and ROUNDS must be whole numbers, ROUNDS at most 1000");
-    return x;
-}
-
 int main(int argc, char **argv)
 {
     if (argc != 3)
         fail("STEPS and ROUNDS are needed");
-    size_t steps = number(argv[1], 100000000);
-    rounds = number(argv[2], MOST_ROUNDS);
+    static const char wrong[] = "STEPS and ROUNDS must be whole numbers, ROUNDS at most 1000";
+    size_t steps = number_of(argv[1], 100000000, wrong);
+    rounds = number_of(argv[2], MOST_ROUNDS, wrong);
     if (rounds == 0)
         fail("a round is needed");
     print_heading();

@@ -1,9 +1,10 @@
 /* Makes the logs on which throttle_cut_down is measured. See cut_logs.h. */
 #include "cut_logs.h"
 
+#include "log_bytes.h"
+
 #include <string.h>
 
-enum { BLOCK = 512, BODY = 8, SUMS = 508, MODULUS = 65521, RECORD = 24, RECORDS = 20, NUMBERS = 9 };
 enum { REQUEST, DONE, QUOTA = 4 };
 
 const char *const cut_kinds[CUT_KINDS] = {
@@ -39,36 +40,12 @@ struct cut_log cut_log_of(size_t kind, const struct throttle_setting *setting, u
     return log;
 }
 
-static void store(uint8_t *p, uint64_t x, size_t bytes)
-{
-    for (size_t i = 0; i < bytes; i++)
-        p[i] = (uint8_t)(x >> 8 * i);
-}
-
-static void seal(uint8_t block[BLOCK], uint32_t number, uint8_t count)
-{
-    uint32_t plain = 0, weighted = 0;
-    store(block, number, 4);
-    block[4] = count;
-    for (uint32_t i = 0; i < SUMS; i++) {
-        plain += block[i];
-        weighted += (i + 1) * block[i];
-    }
-    store(block + SUMS, plain % MODULUS, 2);
-    store(block + SUMS + 2, weighted % MODULUS, 2);
-}
-
 static void write_setting(const struct cut_log *log, uint8_t block[BLOCK])
 {
     uint64_t words[THROTTLE_SETTING_WORDS];
     uint16_t seeds[THROTTLE_SEEDS];
-    throttle_words(&log->setting, words);
     throttle_house_seeds(seeds);
-    for (size_t i = 0; i < NUMBERS; i++)
-        store(block + BODY + 4 * i, words[i], 4);
-    for (size_t i = 0; i < THROTTLE_SEEDS; i++)
-        store(block + BODY + 4 * NUMBERS + 2 * i, seeds[i], 2);
-    seal(block, 0, 0);
+    store_start(block, throttle_words(&log->setting, words), seeds);
 }
 
 size_t write_cut_log(const struct cut_log *log, uint8_t bytes[CUT_LOG_BYTES])
@@ -87,7 +64,7 @@ size_t write_cut_log(const struct cut_log *log, uint8_t bytes[CUT_LOG_BYTES])
         p[20] = r->kind;
         p[21] = r->answer;
         if (i % RECORDS == RECORDS - 1 || i == THROTTLE_CUT_RECORDS - 1)
-            seal(block, (uint32_t)(1 + i / RECORDS), (uint8_t)(i % RECORDS + 1));
+            seal(block, 1 + i / RECORDS, i % RECORDS + 1);
     }
     return CUT_LOG_BYTES;
 }

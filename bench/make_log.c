@@ -10,6 +10,7 @@
  * latest. The same arguments always give the same log.
  */
 #include "baseline.h"
+#include "log_bytes.h"
 #include "seeds.h"
 #include "throttle.h"
 
@@ -20,9 +21,6 @@
 
 BASE_DECLARE(base);
 
-enum { BLOCK = 512, BODY = 8, SUMS = 508, MODULUS = 65521, RECORD = 24, RECORDS = 20 };
-/* Block 0 has so many words of the setting in 32 bits; the last, the profile mark, is a byte. */
-enum { NUMBERS = 9 };
 enum { THREADS = 8, SERVICE = 200, POLL = 1000, FLIGHTS = 1024, ANSWERS = 5 };
 enum { REQUEST, DONE };
 
@@ -195,25 +193,8 @@ static void follow(struct loop *l, const struct record *c)
     }
 }
 
-/* Stores a number of n bytes, the lowest first. */
-static void store(uint8_t *p, uint64_t x, size_t n)
+static void write_block(const uint8_t block[BLOCK])
 {
-    for (size_t i = 0; i < n; i++)
-        p[i] = (uint8_t)(x >> 8 * i);
-}
-
-/* Completes a block with its number, its record count and the sums, and writes it. */
-static void write_block(uint8_t block[BLOCK], uint64_t number, size_t count)
-{
-    uint32_t plain = 0, weighted = 0;
-    store(block, number, 4);
-    store(block + 4, count, 1);
-    for (uint32_t i = 0; i < SUMS; i++) {
-        plain += block[i];
-        weighted += (i + 1) * block[i];
-    }
-    store(block + SUMS, plain % MODULUS, 2);
-    store(block + SUMS + 2, weighted % MODULUS, 2);
     if (fwrite(block, 1, BLOCK, stdout) != BLOCK)
         fail("the log cannot be written");
 }
@@ -222,13 +203,8 @@ static void write_block(uint8_t block[BLOCK], uint64_t number, size_t count)
 static void write_start(void)
 {
     uint8_t block[BLOCK] = {0};
-    uint8_t *seeds_at = block + BODY + 4 * NUMBERS;
-    for (size_t k = 0; k < NUMBERS; k++)
-        store(block + BODY + 4 * k, setting[k], 4);
-    for (size_t k = 0; k < THROTTLE_SEEDS; k++)
-        store(seeds_at + 2 * k, seeds[k], 2);
-    store(seeds_at + 2 * THROTTLE_SEEDS, setting[NUMBERS], 1);
-    write_block(block, 0, 0);
+    store_start(block, setting, seeds);
+    write_block(block);
 }
 
 static void store_record(uint8_t *p, const struct record *c)
@@ -258,7 +234,8 @@ static void write_log(struct loop *l, uint64_t records, uint64_t answers[ANSWERS
             if (c.kind == REQUEST)
                 answers[c.out[0]]++;
         }
-        write_block(block, number, count);
+        seal(block, number, count);
+        write_block(block);
         left -= count;
     }
 }

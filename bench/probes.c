@@ -6,26 +6,23 @@
  *
  * All builds must answer alike, in every round and on many short lists before.
  */
-#define _POSIX_C_SOURCE 199309L
+#include "beside.h"
 #include "probes_plain.h"
 
 #include <inttypes.h>
 #include <stdio.h>
 #include <stdlib.h>
 #include <string.h>
-#include <time.h>
 
 PLAIN_DECLARE(o2);
 PLAIN_DECLARE(o3);
 PLAIN_DECLARE(native);
 
-enum { LIBRARY, O2, O3, NATIVE, BUILDS };
-enum { MOST_ROUNDS = 1000, SHORT_LISTS = 200000, LONGEST_SHORT = 4 };
+enum { SHORT_LISTS = 200000, LONGEST_SHORT = 4 };
 /* Lists of fewer pairs are asked about several times in a round. */
 enum { FEW_PAIRS = 100000, CALLS_OF_FEW = 100 };
 
-static const char *const names[BUILDS] = {"library", "gcc -O2", "gcc -O3", "-march=native"};
-static const char *const ratios[BUILDS] = {"", "/ -O2", "/ -O3", "/ native"};
+static const struct columns times = {7, 6, 2};
 
 typedef uint32_t fit_call(const uint64_t *, size_t, const uint32_t *, size_t, uint64_t,
                           const uint64_t *, size_t, const uint32_t *, size_t, uint64_t, uint64_t,
@@ -55,29 +52,8 @@ struct answer {
 static struct list first, second;
 static uint64_t jitter;
 static size_t rounds;
-static double spent[BUILDS][MOST_ROUNDS];
-
-static _Noreturn void fail(const char *what)
-{
-    fprintf(stderr, "bench: %s\n", what);
-    exit(1);
-}
-
-static uint64_t next_random(void)
-{
-    static uint64_t x = 88172645463325252u;
-    x ^= x << 13;
-    x ^= x >> 7;
-    x ^= x << 17;
-    return x;
-}
-
-static double nanoseconds(void)
-{
-    struct timespec t;
-    clock_gettime(CLOCK_MONOTONIC, &t);
-    return (double)t.tv_sec * 1e9 + (double)t.tv_nsec;
-}
+/* What all builds answer to the lists that are measured. */
+static struct answer measured;
 
 /* The words of out hold a pattern that shows where one is not written. */
 static struct answer ask(size_t build)
@@ -159,60 +135,34 @@ static void fill(size_t pairs)
     jitter = 10;
 }
 
-static int by_size(const void *x, const void *y)
+/* The records of the longer list. */
+static double longer(void)
 {
-    double a = *(const double *)x, b = *(const double *)y;
-    return (a > b) - (a < b);
+    return (double)(first.count > second.count ? first.count : second.count);
 }
 
-/* The least and the median of a build's times, or of their ratios to those of another. */
-static void print_pair(size_t build, size_t other)
+/* The time of a build for each of these; it must answer alike every time. */
+static double time_build(size_t build)
 {
-    double values[MOST_ROUNDS], least[2] = {spent[build][0], spent[other][0]};
-    for (size_t r = 0; r < rounds; r++) {
-        values[r] = build == other ? spent[build][r] : spent[build][r] / spent[other][r];
-        least[0] = spent[build][r] < least[0] ? spent[build][r] : least[0];
-        least[1] = spent[other][r] < least[1] ? spent[other][r] : least[1];
-    }
-    qsort(values, rounds, sizeof *values, by_size);
-    printf(" %7.2f %6.2f", build == other ? least[0] : least[0] / least[1], values[rounds / 2]);
-}
-
-/* The time of a build for each pair; it must answer this every time. */
-static double time_build(size_t build, double pairs, const struct answer *wanted)
-{
+    double pairs = longer();
     size_t calls = pairs < FEW_PAIRS ? CALLS_OF_FEW : 1;
     double begin = nanoseconds();
     for (size_t i = 0; i < calls; i++) {
         struct answer a = ask(build);
-        must_be(&a, wanted);
+        must_be(&a, &measured);
     }
     return (nanoseconds() - begin) / pairs / (double)calls;
 }
 
-/*
- * Measures the lists as they are, and prints a line; all builds must answer this.
- * A first round is not counted: a part of the lists may then be in a cache, from
- * what was measured before, and the build that comes first would have the use of it.
- */
+/* Measures the lists as they are, and prints a line; all builds must answer this. */
 static void measure(const char *name, uint64_t code, uint64_t fits, uint64_t offset)
 {
-    struct answer wanted = {code, {fits, offset}};
-    double longer = (double)(first.count > second.count ? first.count : second.count);
+    measured = (struct answer){code, {fits, offset}};
     if (code != 0)
-        wanted.out[0] = wanted.out[1] = UINT64_C(0x5a5a5a5a5a5a5a5a);
-    for (size_t b = 0; b < BUILDS; b++)
-        time_build(b, longer, &wanted);
-    for (size_t r = 0; r < rounds; r++)
-        for (size_t k = 0; k < BUILDS; k++) {
-            size_t b = (k + r) % BUILDS;
-            spent[b][r] = time_build(b, longer, &wanted);
-        }
-    printf("%-27s %9" PRIu64, name, (uint64_t)longer);
-    for (size_t b = 0; b < BUILDS; b++)
-        print_pair(b, b);
-    for (size_t b = 1; b < BUILDS; b++)
-        print_pair(LIBRARY, b);
+        measured.out[0] = measured.out[1] = UINT64_C(0x5a5a5a5a5a5a5a5a);
+    take_times(rounds, time_build);
+    printf("%-27s %9" PRIu64, name, (uint64_t)longer());
+    print_times(&times, &times);
     printf("\n");
     fflush(stdout);
 }
@@ -220,13 +170,9 @@ static void measure(const char *name, uint64_t code, uint64_t fits, uint64_t off
 static void print_heading(void)
 {
     printf("%-37s", "");
-    for (size_t b = 0; b < BUILDS; b++)
-        printf(" %14s", names[b]);
-    for (size_t b = 1; b < BUILDS; b++)
-        printf(" %14s", ratios[b]);
+    print_builds(&times, &times);
     printf("\n%-27s %9s", "lists", "pairs");
-    for (size_t b = 0; b < 2 * BUILDS - 1; b++)
-        printf(" %7s %6s", "best", "median");
+    print_columns(&times, &times);
     printf("\n");
 }
 
@@ -256,21 +202,13 @@ static void measure_all(size_t pairs)
     second.ticks[pairs - 1] = last;
 }
 
-static size_t number(const char *word, unsigned long most)
-{
-    char *end;
-    unsigned long x = strtoul(word, &end, 10);
-    if (*word < '0' || *word > '9' || *end != '\0' || x > most)
-        fail("PAIRS and ROUNDS must be whole numbers, ROUNDS at most 1000");
-    return x;
-}
-
 int main(int argc, char **argv)
 {
     if (argc != 3)
         fail("PAIRS and ROUNDS are needed");
-    size_t pairs = number(argv[1], SIZE_MAX / 16);
-    rounds = number(argv[2], MOST_ROUNDS);
+    static const char wrong[] = "PAIRS and ROUNDS must be whole numbers, ROUNDS at most 1000";
+    size_t pairs = number_of(argv[1], SIZE_MAX / 16, wrong);
+    rounds = number_of(argv[2], MOST_ROUNDS, wrong);
     if (pairs < 1000 || rounds == 0)
         fail("at least 1000 pairs and a round are needed");
     compare_short();

@@ -18,9 +18,10 @@ extern "C" {
 #endif
 
 enum {
-    THROTTLE_CUT_OUT = 1,         /* words of out */
-    THROTTLE_CUT_RECORDS = 64,    /* the most records of a log that is cut down */
-    THROTTLE_MANY_RECORDS = 20,   /* the refusals 20 and 21 below */
+    THROTTLE_CUT_OUT = 1,            /* words of out */
+    THROTTLE_CUT_RECORDS = 64,       /* the most records of a log that is cut down */
+    THROTTLE_CUT_STACK = 160 * 1024, /* bytes of stack for a call */
+    THROTTLE_MANY_RECORDS = 20,      /* the refusals 20 and 21 below */
     THROTTLE_NO_DIFFERENCE = 21
 };
 
@@ -54,10 +55,11 @@ enum {
  *       their first event
  *
  * The log is only read. The state that the selections are run on is on the
- * stack: the call takes about 160 KiB of it, so that a thread that makes the
- * call needs a stack of 256 KiB or more. It runs the log once and then at most
- * 2,080 selections of it. No pointer is null, also where log_len is 0, and out
- * is aligned and does not overlap the log.
+ * stack, 118 KiB of it. With all else that the call takes there this is below
+ * THROTTLE_CUT_STACK, 160 KiB: a thread needs a stack of that size for the call,
+ * beside what its own functions take. The call runs the log once and then at
+ * most 2,080 selections of it. No pointer is null, also where log_len is 0, and
+ * out is aligned and does not overlap the log.
  */
 THROTTLE_CHECKED
 uint32_t throttle_cut_down(const uint8_t *log, size_t log_len,

@@ -9,11 +9,11 @@
 
 static const size_t first_room = 65536, most = (size_t)MOST_MEBIBYTES << 20;
 
-/* Doubles the room for the bytes, which are as many as it holds. */
+/* Doubles the room for the bytes, which are as many as it holds; leaves it if there are no more. */
 static size_t make_room(struct input *in, size_t room)
 {
     if (room == most) {
-        if (getchar() == EOF && !ferror(stdin))
+        if (getchar() == EOF)
             return room;
         stop("%s: longer than %d MiB, and is not read", in->name, MOST_MEBIBYTES);
     }

@@ -16,7 +16,7 @@
 _Static_assert(THROTTLE_MANY_RECORDS == 20 && THROTTLE_NO_DIFFERENCE == 21, "the numbers of the refusals");
 _Static_assert(THROTTLE_CUT_RECORDS == 64 && THROTTLE_CUT_OUT == 1, "the most records, and the words of out");
 
-enum { GUARDS = 4, MOST = 100, STACK = 256 * 1024, CUT = 11, SUM = 12, FORMAT = 13 };
+enum { GUARDS = 4, MOST = 100, CUT = 11, SUM = 12, FORMAT = 13 };
 static const uint64_t guard = UINT64_C(0xA5C396E17B2D4F18), before = UINT64_C(0x1111222233334444);
 
 /* A record as the log has it; its bank and thread are 0. */
@@ -71,12 +71,12 @@ static void *call(void *arguments)
     return NULL;
 }
 
-/* Makes the call in a thread with a stack of this many bytes. */
-static uint32_t with_stack(struct call *c, size_t bytes)
+/* Makes the call in a thread with the stack that the header asks for. */
+static uint32_t in_thread(struct call *c)
 {
     pthread_attr_t attributes;
     pthread_t thread;
-    if (pthread_attr_init(&attributes) || pthread_attr_setstacksize(&attributes, bytes) ||
+    if (pthread_attr_init(&attributes) || pthread_attr_setstacksize(&attributes, THROTTLE_CUT_STACK) ||
         pthread_create(&thread, &attributes, call, c) || pthread_join(thread, NULL))
         abort();
     pthread_attr_destroy(&attributes);
@@ -94,7 +94,7 @@ static uint32_t ask(const struct log *log, uint64_t *out)
     for (size_t k = 0; k < sizeof cells / sizeof *cells; k++)
         cells[k] = k == GUARDS ? before : guard;
     struct call c = {copy, log->length, cells + GUARDS, 99};
-    uint32_t number = with_stack(&c, STACK);
+    uint32_t number = in_thread(&c);
     CHECK(memcmp(copy, log->blocks, log->length) == 0);
     for (size_t k = 0; k < sizeof cells / sizeof *cells; k++)
         CHECK(k == GUARDS || cells[k] == guard);

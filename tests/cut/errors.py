@@ -12,9 +12,11 @@ import resource
 import stat
 import subprocess
 import sys
-import tempfile
+
+sys.path.insert(0, str(pathlib.Path(__file__).resolve().parent.parent))
 
 from model import HANGS, expected, run
+from tried import run_tests, same, write
 
 PROGRAM, PLAIN = sys.argv[1:]
 SAMPLES = pathlib.Path(__file__).resolve().parent.parent.parent / "samples"
@@ -23,18 +25,6 @@ GOOD = expected(LOG, PROGRAM, "log")
 MOST = 64 << 20
 # Bytes of address space: enough to start the program and to read some of the log, and not for all of it.
 LITTLE = 40 << 20
-
-tried = 0
-wrong = 0
-
-
-def same(what, found, wanted):
-    """Counts a run, and says so if it is another than it has to be."""
-    global tried, wrong
-    tried += 1
-    if found != wanted:
-        wrong += 1
-        print(f"errors: {what}:\n  expected {wanted}\n  found    {found}")
 
 
 def says(text, program=PROGRAM):
@@ -45,11 +35,6 @@ def shell(words, **options):
     """A run by the shell, in which $0 is the program."""
     done = subprocess.run(["sh", "-c", words, PROGRAM], capture_output=True, timeout=HANGS, text=True, **options)
     return done.returncode, done.stdout, done.stderr
-
-
-def write(name, data):
-    with open(name, "wb") as file:
-        file.write(data)
 
 
 def read(name):
@@ -132,10 +117,4 @@ def unwritable():
     same("the old file", read("old"), GOOD.new)
 
 
-with tempfile.TemporaryDirectory() as work:
-    os.chdir(work)
-    for test in (calls, unreadable, nowhere, new_logs, unwritable):
-        test()
-    os.chdir("/")
-print(f"errors: {tried} runs, {wrong} not as they must be")
-sys.exit(1 if wrong or not tried else 0)
+run_tests(calls, unreadable, nowhere, new_logs, unwritable)

@@ -8,10 +8,7 @@
 #include "throttle_cut_down.h"
 
 #include <inttypes.h>
-#include <stdbool.h>
 #include <stdio.h>
-#include <stdlib.h>
-#include <string.h>
 
 /* The faults, by name. tests/cut/selections.py takes them from here. */
 #define FAULTS(X)                                                                             \
@@ -22,29 +19,9 @@
     X(many_before_blocks) X(at_most_63) X(at_most_65) X(agreeing_kept) X(refused_kept)        \
     X(empty_is_21) X(setting_is_13)
 
-#define AS_NUMBER(name) name,
-#define AS_TEXT(name) #name,
+#include "../planted.h"
 
-enum fault { FAULTS(AS_NUMBER) none };
 enum { BLOCK = 512, BODY = 8, SUMS = 508, RECORD = 24, MARK = 172, MODULUS = 65521 };
-
-static enum fault planted;
-
-/* Plants the fault that the environment names, if it does. */
-static void plant(void)
-{
-    static const char *const names[] = {FAULTS(AS_TEXT)};
-    const char *name = getenv("FAULT");
-    planted = none;
-    for (int i = 0; name != NULL && i < none; i++)
-        if (strcmp(name, names[i]) == 0)
-            planted = (enum fault)i;
-}
-
-static bool is_planted(enum fault fault)
-{
-    return planted == fault;
-}
 
 static uint64_t setting[THROTTLE_SETTING_WORDS];
 static uint16_t seeds[THROTTLE_SEEDS];

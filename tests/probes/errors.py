@@ -7,11 +7,14 @@ What is wrong has to be said on standard error, word for word, with the file and
 """
 
 import os
+import pathlib
 import subprocess
 import sys
-import tempfile
+
+sys.path.insert(0, str(pathlib.Path(__file__).resolve().parent.parent))
 
 from model import HANGS, run
+from tried import run_tests, same, write
 
 PROGRAM = sys.argv[1]
 GOOD = b"5 0 7\n"
@@ -117,23 +120,6 @@ CALLS = [
     (["-", "-"], "standard input can be one of the files, not both"),
 ]
 
-tried = 0
-wrong = 0
-
-
-def same(what, found, wanted):
-    """Counts a run, and says so if it is another than it has to be."""
-    global tried, wrong
-    tried += 1
-    if found != wanted:
-        wrong += 1
-        print(f"errors: {what}:\n  expected {wanted}\n  found    {found}")
-
-
-def write(name, data):
-    with open(name, "wb") as file:
-        file.write(data)
-
 
 def wrong_lines():
     """Each wrong line in two of the places, in the first file or in the second; where both are wrong the first is named."""
@@ -209,10 +195,4 @@ def nowhere():
         same(f"{words} 2>&-", done.returncode, status)
 
 
-with tempfile.TemporaryDirectory() as work:
-    os.chdir(work)
-    for test in (wrong_lines, good_files, unreadable, calls, nowhere):
-        test()
-    os.chdir("/")
-print(f"errors: {tried} runs, {wrong} not as they must be")
-sys.exit(1 if wrong or not tried else 0)
+run_tests(wrong_lines, good_files, unreadable, calls, nowhere)

@@ -8,10 +8,7 @@
 #include "throttle_probes.h"
 
 #include <inttypes.h>
-#include <stdbool.h>
 #include <stdio.h>
-#include <stdlib.h>
-#include <string.h>
 
 /* The faults, by name. tests/probes/verdicts.py takes them from here. */
 #define FAULTS(X)                                                                            \
@@ -21,28 +18,7 @@
     X(strict_below) X(first_tick_left_out) X(from_999) X(from_1001) X(greatest)              \
     X(to_1001) X(to_999) X(empty_lists_fit_with_0) X(empty_lists_do_not_fit)
 
-#define AS_NUMBER(name) name,
-#define AS_TEXT(name) #name,
-
-enum fault { FAULTS(AS_NUMBER) none };
-
-static enum fault planted;
-
-/* Plants the fault that the environment names, if it does. */
-static void plant(void)
-{
-    static const char *const names[] = {FAULTS(AS_TEXT)};
-    const char *name = getenv("FAULT");
-    planted = none;
-    for (int i = 0; name != NULL && i < none; i++)
-        if (strcmp(name, names[i]) == 0)
-            planted = (enum fault)i;
-}
-
-static bool is_planted(enum fault fault)
-{
-    return planted == fault;
-}
+#include "../planted.h"
 
 struct side {
     const uint64_t *ticks;
