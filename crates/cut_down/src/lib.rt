@@ -1,23 +1,12 @@
 // The call for C that cuts a log down to records that still differ (document 02, k). It returns 0 when it answered, and else the number of its refusal, and
 // then leaves out as it was. All work memory is local, and the log is only read.
+use cut_parts::all_of;
 use cut_passes::passes;
 use cut_refusal::log_refusal;
 use cut_run::differs;
 ghost use mathlib.Core.Path.{_≡_};
-ghost use Prim.Native.Nat.{_^_, _-_, _≤_};
 ghost use Rattle.rules.specs.Policy.{narrow};
 ghost use Rattle.cut_verdict.specs.Cut.{cutOf, codeOf, outOf};
-
-// The number that selects all n records.
-fn all_of(n: u64) -> u64
-    requires { ⌜ n ≤ 64 ⌝ }
-    ensures { λ r. ⌜ r ≡ 2 ^ n - 1 ⌝ }
-{
-    if n == 64 {
-        return 18446744073709551615;
-    }
-    (1u64 << n) - 1
-}
 
 // It rules out: a call that answers with all records, with no record, or with a selection that no longer differs or could lose a record; one that gives 21
 // for a log of more than 64 records, that does not look at the blocks behind a record that differs, or that writes out where it refuses.

@@ -21,7 +21,7 @@ use Rattle.judged.proofs.Steps.{not-both, on-then}
 use Rattle.selections.specs.Selections.{stays, chosen}
 use Rattle.selections.proofs.Chosen.{chosen-here, chosen-end}
 use Rattle.cut_verdict.specs.Cut.{isDiffers, saysDiffers}
-use Rattle.cut_kept.specs.Kept.{NextKept, noneJudged, reportDiffers}
+use Rattle.cut_parts.specs.Kept.{NextKept, noneJudged, reportDiffers}
 use Rattle.cut_kept.proofs.Steps.{chosen-next}
 
 -- a report of a verdict says what the verdict says

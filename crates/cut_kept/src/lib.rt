@@ -1,11 +1,12 @@
 // The records of a log that a selection keeps, judged one after the other up to the first event. The judging of a record and the reading of the log are
 // called only through their contracts.
 use cut_blocks::record_at;
+use cut_parts::is_differing;
+use cut_parts::next_kept;
 use head::Head;
 use judge::entry::judge_record;
 use rules::Setting;
 use tally::Progress;
-use tally::Report;
 ghost use mathlib.Core.Path.{_≡_};
 ghost use Prim.Native.Nat.{_≤_};
 ghost use lib.ListN.{length};
@@ -20,45 +21,7 @@ ghost use Rattle.hash_words.specs.Words.{TableFor};
 ghost use Rattle.judged.specs.Follow.{running};
 ghost use Rattle.selections.specs.Selections.{chosen, bits};
 ghost use Rattle.cut_verdict.specs.Cut.{saysDiffers};
-ghost use Rattle.cut_kept.specs.Kept.{NextKept, noneJudged, reportDiffers};
-
-// The first of n records from record i on that stays, or n.
-fn next_kept(kept: u64, i: u64, n: u64) -> u64
-    requires { ⌜ (i ≤ n) × (n ≤ 64) ⌝ }
-    ensures { λ r. ⌜ NextKept (bits n kept) i n r ⌝ }
-{
-    let mut k = i;
-    while k < n {
-        let shifted = kept >> k;
-        if shifted % 2 == 1 {
-            return k;
-        }
-        k += 1;
-    }
-    n
-}
-
-// A report says `differs`. A refusal counts as not differing.
-fn is_differing(report: Report) -> bool
-    ensures { λ r. ⌜ r ≡ reportDiffers report ⌝ }
-{
-    match report {
-        Report::Refused {
-            number: _,
-            blocks: _,
-        } => false,
-        Report::Agrees {
-            records: _,
-            opened: _,
-        } => false,
-        Report::Differs {
-            records: _,
-            opened: _,
-            block: _,
-            place: _,
-        } => true,
-    }
-}
+ghost use Rattle.cut_parts.specs.Kept.{noneJudged};
 
 // The records that stay, on a model that is set up.
 pub fn judge_kept(

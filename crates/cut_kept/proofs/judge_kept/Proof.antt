@@ -13,7 +13,7 @@ use Rattle.selections.specs.Selections.{chosen, bits}
 use Rattle.selections.proofs.Words.{bits-length}
 use Rattle.cut_verdict.specs.Cut.{saysDiffers}
 use Rattle.cut_verdict.proofs.Places.{record-placed}
-use Rattle.cut_kept.specs.Kept.{noneJudged}
+use Rattle.cut_parts.specs.Kept.{noneJudged}
 use Rattle.cut_kept.proofs.Sofar.{Sofar, sofar-none, sofar-room, sofar-over, sofar-more, sofar-end}
 use borrow.Author.Needs.{needs}
 use Rattle.cut_kept.proofs.judge_kept.Statement.{statement}

@@ -17,7 +17,7 @@ use Rattle.judged.specs.Follow.{running}
 use Rattle.checker_reading.specs.Blocks.{readSoFar}
 use Rattle.selections.specs.Selections.{chosen, bits}
 use Rattle.cut_verdict.specs.Cut.{differing, differsWith}
-use Rattle.cut_kept.specs.Kept.{noneJudged}
+use Rattle.cut_parts.specs.Kept.{noneJudged}
 use Rattle.cut_run.proofs.Begin.{begin-over, begin-on}
 use borrow.Author.Needs.{needs}
 use Rattle.cut_run.proofs.differs.Statement.{statement}

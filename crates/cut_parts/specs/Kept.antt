@@ -1,4 +1,4 @@
--- What a run of a selection goes by: the next record that stays, and what a report says.
+-- What a run of a selection goes by: the next record that stays, the counts that it begins with, and what a report says.
 use mathlib.Core.Path.{_≡_}
 use mathlib.Core.List.{List}
 use mathlib.Core.Bool.{Bool, true, false}

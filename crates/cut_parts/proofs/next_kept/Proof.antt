@@ -2,10 +2,10 @@
 use Prim.Native.Nat.{_-_, _≤_}
 use native.Mathlib.Omega.{arith}
 use Rattle.selections.specs.Selections.{bits}
-use Rattle.cut_kept.proofs.Steps.{Gone, gone-none, gone-more, bit-stays}
+use Rattle.cut_parts.proofs.Search.{Gone, gone-none, gone-more, bit-stays}
 use borrow.Author.Needs.{needs}
-use Rattle.cut_kept.proofs.next_kept.Statement.{statement}
-use Rattle.cut_kept.proofs.next_kept.Tie as tie
+use Rattle.cut_parts.proofs.next_kept.Statement.{statement}
+use Rattle.cut_parts.proofs.next_kept.Tie as tie
 
 abbrev Inv-loop : tie.InvT-loop
 Inv-loop kept i n k₀ k = (i ≤ k) × (k ≤ n) × Gone (bits n kept) i k

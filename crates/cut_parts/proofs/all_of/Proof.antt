@@ -5,8 +5,8 @@ use native.Mathlib.Omega.{arith}
 use lib.Pow.{pow-pos}
 use Rattle.selections.proofs.Words.{bit-is}
 use borrow.Author.Needs.{needs}
-use Rattle.cut_down.proofs.all_of.Statement.{statement}
-use Rattle.cut_down.proofs.all_of.Tie as tie
+use Rattle.cut_parts.proofs.all_of.Statement.{statement}
+use Rattle.cut_parts.proofs.all_of.Tie as tie
 
 -- one bit above them
 bit : (c : tie.Else1) → 1 * 2 ^ c .before .args .n % 2 ^ 64 ≡ 2 ^ c .before .args .n
