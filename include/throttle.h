@@ -249,12 +249,7 @@ enum throttle_answer {
     THROTTLE_QUOTA = 4      /* the thread's total in flight is not below its quota in this bank */
 };
 
-/*
- * Both in a few words, for messages; "unknown" for any other number. 11 to 13
- * are refusals of the log checker, 13 also of the log writer; 18 is one of
- * throttle_fit_probes (throttle_probes.h), 20 and 21 are those of
- * throttle_cut_down (throttle_cut_down.h), which has 11 to 13 too.
- */
+/* Both in a few words, for messages; "unknown" for any other number. 11 to 13 are of logs. */
 static inline const char *throttle_refusal_name(uint32_t number)
 {
     switch (number) {
@@ -273,8 +268,8 @@ static inline const char *throttle_refusal_name(uint32_t number)
     case 11: return "input ends within a block";
     case 12: return "sum of a block is wrong";
     case 13: return "against the log format";
-    case 18: return "jitter or tick of a probe too large";
-    case 20: return "more than 64 records";
+    case 18: return "jitter or tick of a probe too large"; /* throttle_probes.h */
+    case 20: return "more than 64 records"; /* 20, 21: throttle_cut_down.h */
     case 21: return "records that do not differ";
     default: return "unknown";
     }

@@ -57,9 +57,10 @@ enum {
  * The log is only read. The state that the selections are run on is on the
  * stack, 118 KiB of it. With all else that the call takes there this is below
  * THROTTLE_CUT_STACK, 160 KiB: a thread needs a stack of that size for the call,
- * beside what its own functions take. The call runs the log once and then at
- * most 2,080 selections of it. No pointer is null, also where log_len is 0, and
- * out is aligned and does not overlap the log.
+ * beside what its own functions take. The call runs the log once and then,
+ * since each pass but the last leaves out a record, at most 64 + 63 + .. + 1 =
+ * 2,080 selections of it. No pointer is null, also where log_len is 0, and out
+ * is aligned and does not overlap the log.
  */
 THROTTLE_CHECKED
 uint32_t throttle_cut_down(const uint8_t *log, size_t log_len,

@@ -16,7 +16,7 @@ struct record {
     unsigned block, place;
 };
 
-/* A sound log of at most 64 records, as throttle_cut_down leaves it at 0 or 21. */
+/* A sound log of at most 64 records: one for which throttle_cut_down returned 0. */
 struct log {
     uint64_t setting[THROTTLE_SETTING_WORDS];
     uint16_t seeds[THROTTLE_SEEDS];

@@ -81,8 +81,8 @@ def is_noticed(program, given, folder, **environment):
 
 
 def in_other_order(given):
-    """The logs for the faults: those of the samples, which have most to tell, then the others, mixed."""
-    return given[:2] + Random(2).sample(given[2:], len(given) - 2)
+    """The logs for the faults: those of the three samples first, then the others, mixed."""
+    return given[:3] + Random(2).sample(given[3:], len(given) - 3)
 
 
 def notice_all(faults, given, folder):

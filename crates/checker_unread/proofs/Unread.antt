@@ -1,7 +1,6 @@
 -- Before the first block anything can be judged.
 use mathlib.Core.Path.{_≡_, ap}
 use native.Mathlib.Omega.{arith}
-use Prim.Native.Nat.{ℕ}
 use Rattle.rules.specs.Policy.{limits01}
 use Rattle.log_format.specs.Verdict.{Running, unread}
 use Rattle.checker_reading.specs.Blocks.{Ready}

@@ -2,7 +2,6 @@
 use mathlib.Core.Path.{_≡_, sym, ap, _∙_}
 use mathlib.Core.List.{List}
 use Prim.Native.Nat.{ℕ, _/_, _%_, _≤_}
-use native.Mathlib.Omega.{arith}
 use lib.Dec.{eqb}
 use lib.ListN.{length}
 use Rattle.rules.specs.declared.Setting.{Setting}
@@ -11,7 +10,7 @@ use Rattle.rules.specs.Setting.{settingRefusal}
 use Rattle.rules.specs.Policy.{limits01}
 use Rattle.log_format.specs.Bytes.{blockAt}
 use Rattle.log_format.specs.Refusals.{model, logRefusalNumber}
-use Rattle.log_format.specs.Contents.{countIn, settingIn, seedsIn}
+use Rattle.log_format.specs.Contents.{settingIn, seedsIn}
 use Rattle.log_format.specs.Blocks.{blockRefusal}
 use Rattle.log_format.specs.Claims.{settingOfLog, seedsOfLog, laterOf}
 use Rattle.cut_verdict.specs.Cut.{blocksRefusal, logRefusal}

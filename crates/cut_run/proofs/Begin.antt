@@ -1,18 +1,16 @@
 -- Where a run begins: block 0 sets the model up, or its setting is refused.
 use mathlib.Core.Path.{_≡_, refl, sym, ap, _∙_}
 use mathlib.Core.List.{List}
-use mathlib.Core.Bool.{Bool, true, false, cond}
+use mathlib.Core.Bool.{Bool, true, false}
 use Prim.Native.Nat.{ℕ}
 use lib.Dec.{eqb}
 use Rattle.rules.specs.Answers.{refusalNumber}
 use Rattle.rules.specs.Calls.{setupRefusal}
-use Rattle.rules.specs.State.{State}
 use Rattle.rules.specs.Policy.{limits01, narrow}
 use Rattle.rules.proofs.Regular.{in-force-used-flying}
 use Rattle.log_format.specs.declared.Entry.{Entry}
-use Rattle.log_format.specs.Refusals.{model}
 use Rattle.log_format.specs.Contents.{settingIn, seedsIn}
-use Rattle.log_format.specs.Verdict.{refusedAfter, Running, Step, over, on, andThen, setUp, judgeRecords, judgeStart}
+use Rattle.log_format.specs.Verdict.{Running, Step, andThen, judgeRecords, judgeStart}
 use Rattle.tally.specs.declared.Report.{Report}
 use Rattle.judged.specs.Follow.{Follows}
 use Rattle.judged.proofs.Steps.{not-both, on-then}

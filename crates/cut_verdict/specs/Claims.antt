@@ -89,7 +89,7 @@ selectedBy bytes m = bits (length (recordsOf bytes)) m
 abbrev pub cutRecords : List ℕ → ℕ → List Entry
 cutRecords bytes m = chosen (selectedBy bytes m) (recordsOf bytes)
 
--- Bit i is set exactly if record i stays, for every i; bits past the records are not set; the number is not 0 and has 64 bits.
+-- Bit i is set exactly if record i stays, for every i; bits past the records are not set; the number is not 0 and fits in 64 bits.
 abbrev pub BitsSay : Policy → Type 0
 BitsSay p =
     (bytes : List ℕ) (m : ℕ) → Answer p bytes m

@@ -1,6 +1,4 @@
 -- `record_at` copies the block and reads its entry.
-use mathlib.Core.Path.{_∙_, ap}
-use Rattle.log_format.specs.Contents.{entryIn}
 use borrow.Author.Needs.{needs}
 use Rattle.cut_blocks.proofs.record_at.Statement.{statement}
 use Rattle.cut_blocks.proofs.record_at.Tie as tie

@@ -1,6 +1,6 @@
 -- `passes`: the passes from the number at hand come to the result; the number is the measure.
 use mathlib.Core.Path.{_≡_, refl, _∙_}
-use Prim.Native.Nat.{_^_, _≤_, _<_}
+use Prim.Native.Nat.{_^_, _<_}
 use native.Mathlib.Omega.{arith}
 use lib.ListN.{length}
 use Rattle.rules.specs.Policy.{limits01, narrow}
