@@ -1,23 +1,23 @@
 # shellcheck shell=bash
 # The programs and archives of this repository: where they are, whether they are up to date, and how they are proved and built, by one
-# command at a time. Nothing but tools/prove.sh, which orders the proofs of a first build, knows this too. To be sourced by a bash script that has `set -eu` and a function `fail`, which says what is
+# command at a time. Nothing else knows this. To be sourced by a bash script that has `set -eu` and a function `fail`, which says what is
 # wrong and ends the script.
 #   need_program NAME [FILE]    sets `product` to the path of the program NAME, which is built if it must be; to FILE if that is given
-#   need_archive NAME [FILE]    the same of the archive libNAME.a
+#   need_archive NAME [FILE]    the same of the archive libNAME.a, which the crate NAME_c makes
 #   need_c_program NAME ARCHIVE...
 #                               the same of the program in C of programs/NAME, over these archives
 #   lock_target                 waits until no other process builds, and keeps others from it until
 #   unlock_target
-# Its variables are root, target, lock_file, lock, product, proof, record, build_command, members, needs and parts.
+# Its variables are root, target, lock_file, lock, product, made, record, crate, verb, members, needs and parts.
+# rt leaves what it makes in the crate's folder out/, from where a build that ended well copies it to target/.
 # A product that is up to date is taken as it is, without the lock and without rt. It is up to date if the crates that it is made of have
-# the files that they had when its last build began, each with the size and the time that it had then. If it was built by hand with rt, it
+# the files that they had when its last build began, each with the size and the time that it had then. If it was put into target/ by hand, it
 # is up to date if it is newer than each of these files and of the folders they are in. A program in C is made of its sources, the headers
-# and the archives. A build that did not end well makes nothing up to date. rt itself takes no lock.
+# and the archives. A build that did not end well makes nothing up to date. rt itself does not know this lock.
 
 root=$(dirname "$(dirname "$(realpath "${BASH_SOURCE[0]}")")")
 target=$root/target
-. "$root/tools/prove.sh"
-# Beside target/ and not in it, as rt ci removes target/.
+# Beside target/ and not in it, as target/ may be removed at any time.
 lock_file=$root/target.lock
 
 declare -A needs=()
@@ -25,18 +25,20 @@ declare -A needs=()
 # For each product there are in target/, under the name `record`: .out, what its build printed; .begun, the files as they were when a build
 # began that has not ended well; .files, the files as they were when the build began that made the product.
 need_program() {
+    crate=$1
+    verb=run
+    made=$root/crates/$crate/out/$crate
     product=$target/bin/$1
-    proof=$target/stamp/$1
     record=$target/${1//_/-}
-    build_command=(rt check "$1")
     need_product "$@"
 }
 
 need_archive() {
+    crate=$1_c
+    verb=lib
+    made=$root/crates/$crate/out/lib$crate.a
     product=$target/staticlib/lib$1.a
-    proof=
     record=$target/lib$1
-    build_command=(rt staticlib "$1")
     need_product "$@"
 }
 
@@ -63,20 +65,18 @@ need_product() {
         product=$(realpath -- "$2")
         return
     fi
-    is_up_to_date "$1" && return
+    is_up_to_date && return
     command -v rt >/dev/null || fail "the Rattle toolchain (rt) is not installed"
     lock_target
-    is_up_to_date "$1" || build
+    is_up_to_date || build
     unlock_target
 }
 
 is_up_to_date() {
     local found
-    find_members "$1"
+    find_members "$crate"
     find_parts
     [ -e "$product" ] && [ ! -e "$record.begun" ] || return 1
-    # A program that rt has linked and that then failed its run has no mark of its proof.
-    [ -z "$proof" ] || [ -e "$proof" ] || return 1
     if has_record; then
         is_as_recorded
     else
@@ -99,15 +99,14 @@ is_as_recorded() {
 }
 
 # Sets `members` to the crates that a crate is made of, itself among them, in the order of crates.txt, and `needs` to what each crate
-# depends on. What crates.txt does not list is a library of the toolchain.
+# depends on. What crates.txt does not list is a library of the toolchain. A name may have words behind it, as `staticlib`.
 find_members() {
-    local line name queue=("$1") listed=()
+    local line name rest queue=("$1") listed=()
     local -A seen=()
     needs=()
     while IFS= read -r line || [ -n "$line" ]; do
         line=${line%%#*}
-        name=${line%%:*}
-        name=${name//[[:blank:]]/}
+        read -r name rest <<<"${line%%:*}" || true
         [ -z "$name" ] || { needs[$name]=${line#*:} && listed+=("$name"); }
     done <"$root/crates.txt"
     while [ ${#queue[@]} -gt 0 ]; do
@@ -166,34 +165,25 @@ unlock_target() {
 
 # Before a build: a file for what it prints, and the record of the files.
 begin_build() {
-    mkdir -p "$target" 2>/dev/null || fail "$target cannot be made"
-    { : >"$record.out"; } 2>/dev/null || fail "$record.out cannot be written"
-    { list_files >"$record.begun"; } 2>/dev/null || fail "$record.begun cannot be written"
-}
-
-# After one that ended well. The record is not older than the product.
-end_build() {
-    touch "$record.begun"
-    mv "$record.begun" "$record.files"
-}
-
-build() {
     local output=$record.out shown=${product#"$root/"}
     begin_build
-    # rt does not link again what it has marked as proved.
-    [ -z "$proof" ] || [ -e "$product" ] || rm -f "$proof"
     printf '%s: proving and building %s, %d crates; the first time this takes minutes\n' "$0" "$shown" ${#members[@]} >&2 || true
-    if ! (set -o pipefail && cd "$root" && prove_and_build </dev/null 2>&1 | follow "$output"); then
+    if ! (set -o pipefail && prove_and_build </dev/null 2>&1 | follow "$output"); then
         tail -n 5 "$output" >&2
         fail "$shown was not proved and built; $output has the whole output"
     fi
-    [ -e "$product" ] || fail "rt has not built $shown"
+    [ -f "$made" ] || fail "rt has not built $shown"
+    mkdir -p "${product%/*}"
+    { cp "$made" "$product.new" && mv "$product.new" "$product"; } || fail "$shown cannot be written"
     end_build
 }
 
+# Proves the crate and all below it, each as soon as what it depends on is proved, RT_JOBS at a time: if that is not set, as many as there are
+# processors, and at most four. Then rt builds over these proofs; of a program that is the command that runs it too, here on empty input.
 prove_and_build() {
-    # The last word of the command is the crate.
-    prove_missing "${build_command[-1]}" && "${build_command[@]}"
+    local jobs=${RT_JOBS:-}
+    [ -n "$jobs" ] || { jobs=$(nproc) && ((jobs <= 4)) || jobs=4; }
+    cd "$root/crates/$crate" && rt all check --jobs "$jobs" && rt "$verb"
 }
 
 # Compiles the sources of a folder and links them with archives: compile FOLDER ARCHIVE...
@@ -211,10 +201,10 @@ compile() {
 }
 
 # Copies what rt prints to a file, and says on standard error how many crates are proved: on a terminal in one line, elsewhere in a line
-# for each number. A crate that rt names twice counts once. In the first three seconds it says nothing, as a build that has nothing to prove takes no longer.
+# for each number. In the first three seconds it says nothing, as a build that has nothing to prove takes little longer.
+# rt all prints a crate's name, as `== NAME`, and what its proof said, once that has ended; `== summary` is behind the last.
 follow() {
-    local line='' piece proved=0 shown='' began=$SECONDS ended=0
-    local -A seen=()
+    local line='' piece name='' proved=0 shown='' began=$SECONDS ended=0
     while ((ended == 0 || ended > 128)); do
         # A status above 128 means that a second passed; what was read of a line by then is kept.
         ended=0
@@ -222,8 +212,11 @@ follow() {
         line+=$piece
         if ((ended == 0)) || { ((ended == 1)) && [ -n "$line" ]; }; then
             printf '%s\n' "$line" || return
-            ! is_of_proved_crate "$line" || seen[${BASH_REMATCH[1]%% *}]=yes
-            proved=${#seen[@]}
+            case $line in
+                '== summary') name='' ;;
+                '== '*) name=${line#== } proved=$((proved + 1)) ;;
+                logic=not-proved*) [ -z "$name" ] || { name='' proved=$((proved - 1)); } ;;
+            esac
             line=
         fi
         if ((SECONDS - began >= 3)) && [ "$shown" != "$proved" ]; then
@@ -232,11 +225,6 @@ follow() {
         fi
     done >"$1" || return
     [ -z "$shown" ] || [ ! -t 2 ] || echo >&2
-}
-
-# The lines that rt check prints of each crate and rt staticlib of each crate but the archive's own; and the one that it then ends with.
-is_of_proved_crate() {
-    [[ $1 =~ ^rt:\ ([A-Za-z0-9_]+\ proved\ \(|target/staticlib/) ]]
 }
 
 show_progress() {

@@ -1,5 +1,7 @@
 // The change-over of document 02, a: a saved state with 16-bit counters is taken over to 32-bit counters. Head, history and thread counters are lent for
 // reading only, and so are the old counters.
+#![tactic(auto)]
+
 ghost use Rattle.std.specs.Prelude.{◌≡◌, ◌≤◌, min, length};
 ghost use Rattle.rules.specs.Setting.{setting_of};
 ghost use Rattle.rules.specs.Policy.{limits01};

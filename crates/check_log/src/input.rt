@@ -1,13 +1,13 @@
 // Standard input, a block at a time. What a read gave decides whether more is to be read, the block is whole, the input is at its end, or it is
 // cut; a read that fails is never taken for the end.
-ghost use Rattle.std.specs.Prelude.{◌<◌, ◌≡◌, List, ℤ, length};
+ghost use Rattle.std.specs.Prelude.{◌<◌, ◌≡◌, ◌≤ℤ◌, List, ℤ, pos, length};
 ghost use Rattle.check_log.specs.declared.input.Read.TheVariants.{Over};
 ghost use Rattle.check_log.specs.Reads.{nothing_left, after_read, after_reads};
 
-use libc::STDIN_FILENO;
+use std::io::{self, Stdin};
 
 // How a block was filled.
-#[derive(Drop)]
+#[derive(Clone, Copy)]
 pub enum Filled {
     Whole,
     // Nothing was left to read.
@@ -17,7 +17,7 @@ pub enum Filled {
 }
 
 // After a read: so many bytes of the block are there and more are to be read, or no more is.
-#[derive(Drop)]
+#[derive(Clone, Copy)]
 pub enum Read {
     More { bytes: usize },
     Over { filled: Filled },
@@ -60,14 +60,24 @@ pub fn after_read(size: usize, done: usize, got: isize) -> Read
     }
 }
 
+// One read into the rest of a block: -1 where it failed, else how many bytes it gave, 0 where nothing is left to read.
+fn read_rest(input: &mut Stdin, rest: &mut [u8]) -> isize
+    ensures { result ≤ℤ pos (length rest.old) }
+{
+    match io::Read::read(input, rest) {
+        Ok(n) => n as isize,
+        Err(_) => -1,
+    }
+}
+
 // Fills the block, by as many reads as it takes. What a read puts into the block is outside every contract.
-pub fn fill(block: &mut [u8]) -> Filled
+pub fn fill(input: &mut Stdin, block: &mut [u8]) -> Filled
     requires { 0 < length block.old }
     ensures { (gots : List ℤ) × (after_reads (length block.old) gots ≡ Over result) }
 {
     let mut done: usize = 0;
     loop {
-        let got = libc::read(STDIN_FILENO, &mut block[done..]);
+        let got = read_rest(input, &mut block[done..]);
         match after_read(block.len(), done, got) {
             Read::More { bytes } => {
                 done = bytes;

@@ -1,6 +1,8 @@
 // The program check_log: reads a log from standard input, a block of 512 bytes at a time (`input`), and writes the report of document 01. It stops at the
 // first event and reads no further block. The report is proved to be the verdict of some list of bytes, and what is written its text. That these are the
 // bytes of the input, in their order, is not proved: of what a read puts into the block nothing is promised.
+#![tactic(auto)]
+
 mod input;
 
 ghost use Rattle.std.specs.Prelude.{ℕ, ◌≡◌, List};
@@ -13,7 +15,8 @@ ghost use Rattle.check_log.specs.Fills.{judge_filled};
 
 use crate::input::Filled;
 use judge::reading::{Next, Reading};
-use libc::STDOUT_FILENO;
+use std::io;
+use std::io::{Stdin, Stdout};
 use tally::Report;
 
 // The step from how the block was filled to a report, or to the next block.
@@ -54,7 +57,7 @@ fn judge_filled(
 }
 
 // The report on standard input. A block that goes on has a number of 32 bits, so the loop ends.
-fn run() -> Report
+fn run(mut input: Stdin) -> Report
     ensures { (bytes : List ℕ) × (result ≡ report_of (verdict narrow bytes)) }
 {
     let mut block = [0u8; 512];
@@ -64,7 +67,7 @@ fn run() -> Report
     let mut threads = [0u32; 1536];
     let mut x = judge::unread::start();
     loop {
-        let filled = crate::input::fill(&mut block);
+        let filled = crate::input::fill(&mut input, &mut block);
         let r = judge_filled(
             filled,
             x,
@@ -84,15 +87,15 @@ fn run() -> Report
 }
 
 // Writes the text of the report of some log, from one buffer. It is the only function here that writes.
-fn print(text: &[u8])
+fn print(out: Stdout, text: &[u8]) -> io::Result<()>
     requires { (bytes : List ℕ) × (text.now ≡ text_of (report_of (verdict narrow bytes))) }
 {
-    io::write_all(STDOUT_FILENO, text);
+    Print::write_all(&out, text)
 }
 
-fn main() {
-    let r = run();
+fn main(rt: HostRuntime) -> io::Result<()> {
+    let r = run(rt.stdin());
     let mut text = [0u8; 128];
     let n = report::lay(r, &mut text);
-    print(&text[..n]);
+    print(rt.stdout(), &text[..n])
 }

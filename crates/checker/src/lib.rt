@@ -1,6 +1,8 @@
 // The log checker: a whole log in a slice of bytes, block by block. Where it begins stands in `judge::unread`, a block in `block`, its records in `later` and
 // `records`, where the input ends in `end`. A block is judged only through its contract; the report is proved to be the one of the log's definition of the
 // verdict.
+#![tactic(auto)]
+
 pub mod block;
 pub mod end;
 mod later;

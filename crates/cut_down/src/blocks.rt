@@ -12,7 +12,7 @@ use log_format::Entry;
 use log_read::slice::block_at;
 
 // The blocks after block 0: 0 and the number of their records, or the number of the first refusal.
-#[derive(Drop)]
+#[derive(Clone, Copy)]
 pub struct Counted {
     pub code: u32,
     pub records: u64,

@@ -1,6 +1,8 @@
-// The call for C that cuts a log down to records that still differ (document 02, k). It returns 0 when it answered, and else the number of its refusal, and
-// then leaves out as it was. All work memory is local, and the log is only read. What is refused of the log stands in `refusal` and `blocks`, a run of a
-// selection in `run`, `kept` and `selection`, the passes in `left_out` and `passes`.
+// The call for C that cuts a log down to records that still differ (document 02, k); the crate `cut_down_c` exports it. It returns 0 when it answered, and
+// else the number of its refusal, and then leaves out as it was. All work memory is local, and the log is only read. What is refused of the log stands in
+// `refusal` and `blocks`, a run of a selection in `run`, `kept` and `selection`, the passes in `left_out` and `passes`.
+#![tactic(auto)]
+
 mod blocks;
 mod kept;
 mod left_out;
@@ -20,8 +22,7 @@ use crate::selection::all_of;
 
 // It rules out: a call that answers with all records, with no record, or with a selection that no longer differs or could lose a record; one that gives 21
 // for a log of more than 64 records, that does not look at the blocks behind a record that differs, or that writes out where it refuses.
-#[unsafe(no_mangle)]
-pub extern "C" fn throttle_cut_down(log: &[u8], out: &mut [u64; 1]) -> u32
+pub fn throttle_cut_down(log: &[u8], out: &mut [u64; 1]) -> u32
     ensures { (result ≡ code_of (cut_of narrow log.now)) × (out.new ≡ out_of (cut_of narrow log.now) out.old) }
 {
     let read = log_refusal(log);

@@ -1,5 +1,7 @@
 // The decision on a request and the answer that it becomes, by value: the functions see numbers only. The decision stands here, the answer in `answers`, the
 // numbers that C and a log give it in `numbers`.
+#![tactic(auto)]
+
 pub mod answers;
 pub mod numbers;
 
@@ -10,7 +12,7 @@ ghost use Rattle.decision.specs.Numbers.{decide_from};
 use rules::{Cause, Decision, Setting};
 
 // What the decision looks at, read from the state turned to the request's tick.
-#[derive(Drop)]
+#[derive(Clone, Copy)]
 pub struct View {
     // The thread's requests in flight, over all banks, and its quota in the bank.
     pub flying: u64,

@@ -1,5 +1,7 @@
 // The two counting Bloom filters of each bank, with 16-bit counters. The estimate of a row stands here, what an activation adds in `raise` and `count`, what
 // is cleared in `turn`, and what a request turns and reads in `look`.
+#![tactic(auto)]
+
 pub mod count;
 pub mod look;
 pub mod raise;

@@ -6,7 +6,7 @@ ghost use Rattle.rules.specs.Filter.{Within, two, estimate};
 use crate::bank_estimate;
 
 // The estimates of a row in the active and in the other filter.
-#[derive(Drop)]
+#[derive(Clone, Copy)]
 pub struct Estimates {
     pub active: u64,
     pub other: u64,

@@ -1,5 +1,7 @@
 // The H3 hash of a row: its four places in a counting Bloom filter, by four functions of 16 seeds each; by any seeds (`seeds`, with `lanes`), or by the table
 // of the house seeds (`table`, with `high` and `low`).
+#![tactic(auto)]
+
 mod high;
 mod lanes;
 mod low;

@@ -1,4 +1,7 @@
-// The hashing of many rows, by the seed rule or by the table, for bench/run, which compares the two. No other program needs it.
+// The hashing of many rows, by the seed rule or by the table, for bench/run, which compares the two; the crate `hash_rows_c` exports it. No other program
+// needs it.
+#![tactic(auto)]
+
 ghost use Rattle.std.specs.Prelude.{true, ◌≡◌, get_or};
 ghost use Rattle.rules.specs.Filter.{Within};
 ghost use Rattle.hash_rules.specs.Lanes.{joined};
@@ -30,8 +33,7 @@ fn by_table(table: u32, differing: u16) -> bool
 // The exclusive or of the hashes of all rows; 0 where the seeds are not 64 numbers up to 1,023. Where table is not 0 and the seeds are the house
 // seeds, the table is used. The result is the same either way.
 // It rules out: a hash that leaves a row out, or that the table changes.
-#[unsafe(no_mangle)]
-pub extern "C" fn hash_rows(seeds: &[u16], rows: &[u16], table: u32) -> u64
+pub fn hash_rows(seeds: &[u16], rows: &[u16], table: u32) -> u64
     ensures { result ≡ hashed_rows seeds.now rows.now }
 {
     let differing = difference(seeds);

@@ -1,9 +1,11 @@
 // The state head by value, with the methods that move its clock and record an activation. They stand below the rules, which have no code.
+#![tactic(auto)]
+
 ghost use Rattle.std.specs.Prelude.{◌≡◌, ◌+◌, ◌<◌, ◌^◌};
 ghost use Rattle.head.specs.Head.{next_place, moved_head, activated_head};
 
 // The state head of document 01. A stored tick is the tick plus one, and 0 means none.
-#[derive(Drop)]
+#[derive(Clone, Copy)]
 pub struct Head {
     // The last tick, stored as it is.
     pub last: u64,

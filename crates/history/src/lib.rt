@@ -1,6 +1,8 @@
 // The history buffer: a ring of h places, lent as two slices. `ticks` holds stored ticks, that is the tick plus one, or 0 for none; `rows` holds row words.
 // The next activation is written at place `next`, so the newest one lies before it. The search stands here; the test of the stored ticks (`test`, with
 // `runs`) and the changes (`cells`) are exported again. `clearing` clears buffers of 32-bit cells.
+#![tactic(auto)]
+
 mod cells;
 pub mod clearing;
 pub mod runs;

@@ -6,7 +6,7 @@ use tally::{Progress, Report};
 
 // A log that is read so far: the progress, the setting and the seeds of block 0, whether these are the house seeds (`table`), and the head of the
 // model. The caller lends the buffers.
-#[derive(Drop)]
+#[derive(Clone, Copy)]
 pub struct Reading {
     pub progress: Progress,
     pub setting: Setting,
@@ -16,7 +16,7 @@ pub struct Reading {
 }
 
 // After a block: the log is over with this report, or it goes on from here.
-#[derive(Drop)]
+#[derive(Clone, Copy)]
 pub struct Next {
     pub over: bool,
     pub report: Report,

@@ -14,7 +14,7 @@ use rules::Limits;
 use setting::house_seeds::difference;
 
 // The number of a refusal or 0, how many banks' filters are to be turned, and from which epoch to which.
-#[derive(Drop)]
+#[derive(Clone, Copy)]
 pub struct Clocked {
     pub code: u32,
     pub banks: usize,

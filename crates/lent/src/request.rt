@@ -17,7 +17,7 @@ use rules::{Answer, Limits};
 use setting::house_seeds::difference;
 
 // The number of a refusal or 0, and whether the seeds are the house seeds.
-#[derive(Drop)]
+#[derive(Clone, Copy)]
 pub struct Checked {
     pub code: u32,
     pub table: bool,

@@ -13,7 +13,7 @@ use rules::Limits;
 use setting::house_seeds::difference;
 
 // The number of a refusal or 0, and how many counters are to be cleared.
-#[derive(Drop)]
+#[derive(Clone, Copy)]
 pub struct Cleared {
     pub code: u32,
     pub used: usize,

@@ -6,7 +6,7 @@ use crate::read::word16;
 use crate::tests::{and, wide};
 
 // The two sums of bytes 0 to 507, not yet reduced.
-#[derive(Drop)]
+#[derive(Clone, Copy)]
 pub struct Sums {
     pub plain: u32,
     pub weighted: u32,

@@ -1,8 +1,9 @@
 // The log of document 01: blocks of 512 bytes. The format, the verdict of a whole log and what the encoder writes are definitions in
 // specs/, with the theorems about them in proofs/. The code that reads and writes blocks stands in the crates above.
+#![tactic(auto)]
 
 // A record of the log: a call with the answer and the wait tick that it claims.
-#[derive(Drop)]
+#[derive(Clone, Copy)]
 pub struct Entry {
     pub tick: u64,
     // The wait tick; 0 for answers 0 and 4.

@@ -5,7 +5,7 @@ ghost use Rattle.plan_rules.specs.delays.Delays.{with_delay, AcceptedDelay};
 ghost use Rattle.plan.specs.Costs.{ServedWidth, width_of, cost_of};
 
 // A width of the filter counters.
-#[derive(Drop)]
+#[derive(Clone, Copy)]
 pub struct Width {
     // The limits of its calls.
     pub limits: rules::Limits,
@@ -14,7 +14,7 @@ pub struct Width {
 }
 
 // What a setting costs.
-#[derive(Drop)]
+#[derive(Clone, Copy)]
 pub struct Cost {
     // H, the places of the history buffer.
     pub history: u64,

@@ -1,6 +1,8 @@
-// The planner, and its calls for C: which delays tD a setting is accepted with, at each width of the filter counters, and how often a row can be activated in
-// a span of ticks; the last threshold that has a delay; and what a setting costs (`costs`). The delays are those of `interval`, with `ends`, the bound that
-// of `spans`.
+// The planner, and its calls for C, which the crate `plan_c` exports: which delays tD a setting is accepted with, at each width of the filter counters, and
+// how often a row can be activated in a span of ticks; the last threshold that has a delay; and what a setting costs (`costs`). The delays are those of
+// `interval`, with `ends`, the bound that of `spans`.
+#![tactic(auto)]
+
 pub mod costs;
 mod ends;
 pub mod interval;
@@ -67,16 +69,14 @@ fn write_delays(wide: bool, setting: &[u64; 10], out: &mut [u64; 2]) -> u32
 // The delays of the calls with 16-bit counters.
 // It rules out: an end that is off by one, an interval that leaves out an accepted delay, a refusal where a delay is accepted, a delay that the
 // profile excludes, the limits of the other width.
-#[unsafe(no_mangle)]
-pub extern "C" fn throttle_delays(setting: &[u64; 10], out: &mut [u64; 2]) -> u32
+pub fn throttle_delays(setting: &[u64; 10], out: &mut [u64; 2]) -> u32
     ensures { left result out.new ≡ leaves (delays_of limits01 (setting_of setting.now)) out.old }
 {
     write_delays(false, setting, out)
 }
 
 // The delays of the calls with 32-bit counters. It rules out the same.
-#[unsafe(no_mangle)]
-pub extern "C" fn throttle_wide_delays(setting: &[u64; 10], out: &mut [u64; 2]) -> u32
+pub fn throttle_wide_delays(setting: &[u64; 10], out: &mut [u64; 2]) -> u32
     ensures { left result out.new ≡ leaves (delays_of limits02 (setting_of setting.now)) out.old }
 {
     write_delays(true, setting, out)
@@ -85,8 +85,7 @@ pub extern "C" fn throttle_wide_delays(setting: &[u64; 10], out: &mut [u64; 2]) 
 // The most activations of a row in x ticks: 0 and the bound in out, or the number of the refusal, and out as it was.
 // It rules out: the bound of another span or of another setting, x 0 answered, a refusal that is another or at the limits of 16-bit counters, a
 // refusal that writes.
-#[unsafe(no_mangle)]
-pub extern "C" fn throttle_span_bound(setting: &[u64; 10], x: u64, out: &mut [u64; 1]) -> u32
+pub fn throttle_span_bound(setting: &[u64; 10], x: u64, out: &mut [u64; 1]) -> u32
     ensures { left result out.new ≡ leaves_span (span_of (setting_of setting.now) x) out.old }
 {
     let answer = crate::spans::span(setting::load(setting), x);

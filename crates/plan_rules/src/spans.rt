@@ -2,7 +2,7 @@
 // computed by `plan::spans`.
 
 // The answer about a span of x successive ticks under a setting.
-#[derive(Drop)]
+#[derive(Clone, Copy)]
 pub enum Span {
     // No row is activated more often than so many times.
     Most { times: u64 },

@@ -3,15 +3,17 @@ ghost use Rattle.std.specs.Prelude.{◌≡◌, ◌+◌, ◌^◌, ◌≤◌};
 ghost use Rattle.plan_settings.specs.Decimal.{number_of, wrong as Decimal·wrong};
 ghost use Rattle.plan_settings.specs.Options.{words_of};
 
+use std::env::{Env, FillError};
+
 // A number, or no number where ok is false.
-#[derive(Drop)]
+#[derive(Clone, Copy)]
 pub struct Number {
     pub ok: bool,
     pub value: u64,
 }
 
 // The options before the first number.
-#[derive(Drop)]
+#[derive(Clone, Copy)]
 pub struct Options {
     // How many words they are.
     pub words: usize,
@@ -66,25 +68,33 @@ fn read_word(word: &[u8], most: u64) -> Number
 }
 
 // The number up to `most` of argument i. A word of more than 32 bytes, or none at that place, is no number.
-pub fn argument(i: usize, most: u64) -> Number
+pub fn argument(rt: &HostRuntime, i: usize, most: u64) -> Number
     requires { most ≤ 2 ^ 60 }
 {
     let mut word = [0u8; 32];
-    let n = os::arg(i, &mut word);
-    if os::errno() != 0 {
-        return wrong();
+    match rt.arg(i, &mut word) {
+        Ok(n) => read_word(&word[..n], most),
+        Err(_) => wrong(),
     }
-    read_word(&word[..n], most)
+}
+
+// How many arguments there are, the program's name among them.
+pub fn argument_count(rt: &HostRuntime) -> usize {
+    for i in 0..usize::MAX {
+        if let Err(FillError::NotPresent) = rt.arg(i, &mut []) {
+            return i;
+        }
+    }
+    usize::MAX
 }
 
 // Whether argument i is this word. One of more than 8 bytes is none of the options.
-fn is_word(i: usize, word: &[u8]) -> bool {
+fn is_word(rt: &HostRuntime, i: usize, word: &[u8]) -> bool {
     let mut found = [0u8; 8];
-    let n = os::arg(i, &mut found);
-    if os::errno() != 0 {
-        return false;
+    match rt.arg(i, &mut found) {
+        Ok(n) => &found[..n] == word,
+        Err(_) => false,
     }
-    check::same(&found[..n], word)
 }
 
 // How many words an option is that is given or not.
@@ -95,14 +105,14 @@ fn words(given: bool) -> usize
 }
 
 // The options of the command line, --wide before --small before --spans. It rules out a word that is taken for an option and sets none.
-pub fn read_options() -> Options
+pub fn read_options(rt: &HostRuntime) -> Options
     ensures { (result.words ≡ words_of result.wide + words_of result.small + words_of result.spans) × (result.words ≤ 3) }
 {
-    let wide = is_word(1, b"--wide");
+    let wide = is_word(rt, 1, b"--wide");
     let first = words(wide);
-    let small = is_word(1 + first, b"--small");
+    let small = is_word(rt, 1 + first, b"--small");
     let second = first + words(small);
-    let spans = is_word(1 + second, b"--spans");
+    let spans = is_word(rt, 1 + second, b"--spans");
     let third = second + words(spans);
     Options {
         words: third,

@@ -2,12 +2,13 @@
 ghost use Rattle.std.specs.Prelude.{◌≤◌};
 
 use crate::arguments::{Number, argument};
+use std::io;
 
 // The greatest number that is read.
 const MOST: u64 = 4294967295;
 
 // W, TRC, TFAW and L, which are no numbers where ok is false.
-#[derive(Drop)]
+#[derive(Clone, Copy)]
 pub struct Timing {
     pub ok: bool,
     pub w: u64,
@@ -17,41 +18,41 @@ pub struct Timing {
 }
 
 // Number i of the six, which is reported where it is none; options is the count of words before the first.
-pub fn field(options: usize, i: usize) -> Number
+pub fn field(rt: &HostRuntime, options: usize, i: usize) -> io::Result<Number>
     requires { (options ≤ 3) × (i ≤ 6) }
 {
-    let n = argument(options + i, MOST);
+    let n = argument(rt, options + i, MOST);
     if !n.ok {
-        crate::faults::report_word(i, MOST);
+        crate::faults::report_word(rt, i, MOST)?;
     }
-    n
+    Ok(n)
 }
 
 // The first four, each of which is reported where it is none.
-pub fn read_timing(options: usize) -> Timing
+pub fn read_timing(rt: &HostRuntime, options: usize) -> io::Result<Timing>
     requires { options ≤ 3 }
 {
-    let w = field(options, 1);
-    let trc = field(options, 2);
-    let tfaw = field(options, 3);
-    let l = field(options, 4);
-    Timing {
+    let w = field(rt, options, 1)?;
+    let trc = field(rt, options, 2)?;
+    let tfaw = field(rt, options, 3)?;
+    let l = field(rt, options, 4)?;
+    Ok(Timing {
         ok: w.ok && trc.ok && tfaw.ok && l.ok,
         w: w.value,
         trc: trc.value,
         tfaw: tfaw.value,
         l: l.value,
-    }
+    })
 }
 
 // The threshold that is given, or 1 where none is.
-pub fn threshold(options: usize, is_one: bool) -> Number
+pub fn threshold(rt: &HostRuntime, options: usize, is_one: bool) -> io::Result<Number>
     requires { options ≤ 3 }
 {
     if is_one {
-        return field(options, 5);
+        return field(rt, options, 5);
     }
-    Number { ok: true, value: 1 }
+    Ok(Number { ok: true, value: 1 })
 }
 
 // The setting of the most banks of its profile and 8 threads. Q plays no part.

@@ -1,8 +1,9 @@
 // Two probes on one channel (document 02, i): the verdict about what they recorded, and in specs/ what it means and what is claimed of it. In the crate
 // `probes` the module `pairs` looks at the records, and the root has the call.
+#![tactic(auto)]
 
 // The verdict about two lists of recorded activations.
-#[derive(Drop)]
+#[derive(Clone, Copy)]
 pub enum Verdict {
     // They fit. The least offset d has this number, which is d + 1,000.
     Fit { number: u64 },

@@ -93,7 +93,7 @@ module _ (x y : Probe) (j : ℕ) where
             → Told (all_on_time x y) same (alike x y) g (greatest x.ticks y.ticks (paired x y)) l (least x.ticks y.ticks (paired x y))
             → decided (cond same (closed j g l) 2001) ≡ verdict_of x y j
         verdict_told {same} {g} {l} t =
-            let ok = not_refused t.on-time in
+            let ok = not_refused t.on_time in
             ap decided (by_alike ∙ go (alike x y) refl ∙ sym (closed_form x y j ok)) ∙ sym (verdict_decided x y j ok)
           where
             form : ℕ → ℕ

@@ -1,5 +1,8 @@
-// The call for C about two probes on one channel (document 02, i): whether two lists of recorded activations fit, and the least offset of their clocks. The
-// pass over the records stands in `pairs`. The definitions that the contracts cite are in the crate `probe_rules`, with the statements of what they mean.
+// The call for C about two probes on one channel (document 02, i), which the crate `probes_c` exports: whether two lists of recorded activations fit, and the
+// least offset of their clocks. The pass over the records stands in `pairs`. The definitions that the contracts cite are in the crate `probe_rules`, with the
+// statements of what they mean.
+#![tactic(auto)]
+
 mod pairs;
 
 ghost use Rattle.std.specs.Prelude.{◌≡◌, ◌||◌, cond, ◌-◌, ◌^◌, ◌≤◌};
@@ -92,8 +95,7 @@ fn twos_complement(number: u64) -> u64
 // It rules out: another offset than the least, a difference of exactly the jitter that does not fit, lists of different length, bank or row that
 // fit, a late tick without a partner that is not refused, another offset than −1,000 for two empty lists, a refusal that writes, an answer that
 // depends on cells behind the records.
-#[unsafe(no_mangle)]
-pub extern "C" fn throttle_fit_probes(
+pub fn throttle_fit_probes(
     xticks: &[u64],
     xrows: &[u32],
     xcount: u64,

@@ -6,7 +6,7 @@ ghost use Rattle.probe_rules.specs.Probes.{lent, on_time};
 ghost use Rattle.probes.specs.Pairs.{pairs_of, records_of};
 
 // What is known of the records, or of the first pairs of them.
-#[derive(Drop)]
+#[derive(Clone, Copy)]
 pub enum Records {
     // A tick of 2^62 or more.
     Late,

@@ -1,5 +1,7 @@
 // The text of a report, in the words of document 01: lines of fixed byte strings and decimal numbers, in a buffer that the caller lends. The text is proved
 // to be the one of the definition, for every report. A line stands in `line`, the lines of counts in `counts`.
+#![tactic(auto)]
+
 mod counts;
 mod line;
 

@@ -1,5 +1,5 @@
 -- An activation that the bank, rank and row rules let pass keeps the invariant. The state's clock stands at its tick.
-use mathlib.Core.Path.{◌≡◌, refl, sym, ◌∙◌}
+use mathlib.Core.Path.{◌≡◌, refl, ap, subst, sym, ◌∙◌}
 use mathlib.Core.Logic.{◌⊎◌, inl, inr}
 use mathlib.Core.List.{List, ◌∷◌, map}
 use mathlib.Core.Bool.{Bool, true, false, not, ◌&&◌}
@@ -167,8 +167,12 @@ module _ (m : Limits) (s : Setting) (seeds : List ℕ) (ok : Accepted m s seeds)
       here = get_or-set_same st.head.bank b (t + 1) 0 (omega (arith, i.banks_long))
 
       bank_last : (b' : ℕ) → b' < s.banks → Dec (b' ≡ b) → All (λ x. x.bank ≡ b' → stored x ≤ get_or (set st.head.bank b (t + 1)) b' 0) (new ∷ tr)
-      bank_last b' h (yes e) = rw (e, here) ((λ _. le_refl (t + 1)), all_map (λ x k _. omega arith) tr i.latest)
-      bank_last b' h (no e) = rw (get_or-set_other st.head.bank b b' (t + 1) 0 e) ((λ k. absurd (e (sym k))), i.bank_last b' h)
+      bank_last b' h (yes e) =
+          subst (λ w. All (λ x. x.bank ≡ b' → stored x ≤ w) (new ∷ tr)) (sym (ap (λ y. get_or (set st.head.bank b (t + 1)) y 0) e ∙ here))
+          ((λ _. le_refl (t + 1)), all_map (λ x k _. omega arith) tr i.latest)
+      bank_last b' h (no e) =
+          subst (λ w. All (λ x. x.bank ≡ b' → stored x ≤ w) (new ∷ tr)) (sym (get_or-set_other st.head.bank b b' (t + 1) 0 e))
+          ((λ k. absurd (e (sym k))), i.bank_last b' h)
 
       bank_past : (b' : ℕ) → b' < s.banks → Dec (b' ≡ b) → get_or (set st.head.bank b (t + 1)) b' 0 ≤ t + 1
       bank_past b' h (yes e) = rw (e, here) (le_refl (t + 1))

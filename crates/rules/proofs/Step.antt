@@ -22,7 +22,7 @@ use Rattle.rules.specs.Policy.{Policy}
 use Rattle.rules.specs.Decision.{quota_rule, bank_rule, rank_rule, row_rule, wait_tick, first_failing, decide, activated, openings_left, answer_of}
 use Rattle.rules.specs.Tested.{Long, Taken}
 use Rattle.rules.specs.Calls.{Call, request, done, index, Reply, refused, answered, finished, shown, return_code, setup, setup_refusal, call_refusal, Outcome, outcome, unless_refused, after_decision, requested, reported, index_shown, call_tick, call_bank, call_thread, performed, refusal_of, step, replies, after, Activation, activation_of, activations}
-use Rattle.rules.specs.Moves.{Owned, Move, clock, activate, renew, Reseeds, SameParts, AllAllowed, moved_by, made_by, Moves}
+use Rattle.rules.specs.Moves.{Owned, Move, clock, activate, renew, Reseeds, SameParts, AllAllowed, moved, moved_by, made_by, Moves}
 use Rattle.rules.proofs.Tests.{holds}
 use Rattle.rules.proofs.Accept.{number_none, call_taken}
 use Rattle.rules.proofs.Memory.{turned_long}
@@ -134,17 +134,17 @@ module _ (s : Setting) where
 
   both_allowed : (x : Owned) (vs ws : List Move) → AllAllowed s x vs → AllAllowed s (moved_by s x vs) ws → AllAllowed s x (vs ++ ws)
   both_allowed x [] ws a b = b
-  both_allowed x (v ∷ vs) ws a b = (a.0, both_allowed _ vs ws a.1 b)
+  both_allowed x (v ∷ vs) ws a b = (a.0, both_allowed (moved s x v) vs ws a.1 b)
 
   both_end : (x : Owned) (vs ws : List Move) → moved_by s x (vs ++ ws) ≡ moved_by s (moved_by s x vs) ws
   both_end x [] ws = refl
-  both_end x (v ∷ vs) ws = both_end _ vs ws
+  both_end x (v ∷ vs) ws = both_end (moved s x v) vs ws
 
   both_makes : (x : Owned) (vs ws : List Move) → made_by s x (vs ++ ws) ≡ made_by s x vs ++ made_by s (moved_by s x vs) ws
   both_makes x [] ws = refl
-  both_makes x (clock t own ∷ vs) ws = both_makes _ vs ws
-  both_makes x (activate b th r ∷ vs) ws = ap (λ l. record { tick = x.state.head.last; bank = b; thread = th; row = r } ∷ l) (both_makes _ vs ws)
-  both_makes x (renew st ∷ vs) ws = both_makes _ vs ws
+  both_makes x (clock t own ∷ vs) ws = both_makes (moved s x (clock t own)) vs ws
+  both_makes x (activate b th r ∷ vs) ws = ap (λ l. record { tick = x.state.head.last; bank = b; thread = th; row = r } ∷ l) (both_makes (moved s x (activate b th r)) vs ws)
+  both_makes x (renew st ∷ vs) ws = both_makes (moved s x (renew st)) vs ws
 
   pub and_then : {x y z : Owned} {new more : List Activation} → Moves s x y new → Moves s y z more → Moves s x z (new ++ more)
   and_then {x = x} {new = new} a b =

@@ -1,8 +1,9 @@
 // The types that the rules of document 01 speak of, as plain structs and enums by value; the head is in a crate of its own, with its methods.
 // The rules themselves are definitions in specs/, the theorems about them are in proofs/.
+#![tactic(auto)]
 
 // The ten numbers of the setting: nine named as in document 01, and the profile mark of document 02, g. The 64 seeds are a buffer beside it.
-#[derive(Drop)]
+#[derive(Clone, Copy)]
 pub struct Setting {
     // W, the refresh window in ticks.
     pub w: u64,
@@ -25,21 +26,21 @@ pub struct Setting {
 }
 
 // The limits of the setting that differ from width to width: the greatest N and the greatest H.
-#[derive(Drop)]
+#[derive(Clone, Copy)]
 pub struct Limits {
     pub threshold: u64,
     pub history: u64,
 }
 
 // The limits of a profile of cards: the most banks and the greatest H.
-#[derive(Drop)]
+#[derive(Clone, Copy)]
 pub struct Profile {
     pub banks: u64,
     pub history: u64,
 }
 
 // The rule that a request waits for.
-#[derive(Drop)]
+#[derive(Clone, Copy)]
 pub enum Cause {
     Bank,
     Rank,
@@ -47,7 +48,7 @@ pub enum Cause {
 }
 
 // The decision on a request, before it is carried out: document 01's opened, wait and quota.
-#[derive(Drop)]
+#[derive(Clone, Copy)]
 pub enum Decision {
     Open,
     Hold { cause: Cause, until: u64 },
@@ -55,7 +56,7 @@ pub enum Decision {
 }
 
 // The answer to a request. An opened one has the openings left: N less the estimate after the opening.
-#[derive(Drop)]
+#[derive(Clone, Copy)]
 pub enum Answer {
     Opened { left: u64 },
     Wait { cause: Cause, until: u64 },

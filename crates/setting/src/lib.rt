@@ -1,6 +1,8 @@
 // The setting and its seeds: refusals 1 to 5 and 16 in their order. The tests of the setting stand in `fields` and `bounds`, the pass over the seeds in
 // `house_seeds`; the ten words, the limits (both in `words`) and the length of the history buffer are exported again. The definitions that the contracts cite
 // are in the crate `rules` and in specs/Differing.antt.
+#![tactic(auto)]
+
 mod bounds;
 mod fields;
 pub mod house_seeds;

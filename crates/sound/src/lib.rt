@@ -1,6 +1,8 @@
 // The calls for callers in Rattle that own their memory, such as a log checker: set-up, and request and done on a state that passed the tests of refusals 1
 // to 7 and 16, which each call keeps. Only bank, thread, tick and what is in flight are tested, so no call reads the whole history. Done stands here; set-up
 // (`set_up`) and request (`requested`) are exported again. `tested` is the request behind the tests, `told` what a call tells.
+#![tactic(auto)]
+
 mod requested;
 mod set_up;
 pub mod tested;
@@ -22,7 +24,7 @@ use refusal::{flying_refusal, place_refusal};
 use rules::Setting;
 
 // What a done gives: 0 or the number of a refusal, and the head after it.
-#[derive(Drop)]
+#[derive(Clone, Copy)]
 pub struct Finished {
     pub code: u32,
     pub head: Head,

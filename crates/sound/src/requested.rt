@@ -14,7 +14,7 @@ use refusal::place_refusal;
 use rules::{Answer, Setting};
 
 // What a request gives: 0 and the answer, or the number of a refusal and an answer that says nothing; and the head after it.
-#[derive(Drop)]
+#[derive(Clone, Copy)]
 pub struct Replied {
     pub code: u32,
     pub answer: Answer,

@@ -11,7 +11,7 @@ use rules::Setting;
 use setting::house_seeds::difference;
 
 // What set-up gives: 0 or the number of a refusal, whether the seeds are the house seeds, and the head after it.
-#[derive(Drop)]
+#[derive(Clone, Copy)]
 pub struct Started {
     pub code: u32,
     pub table: bool,

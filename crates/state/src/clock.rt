@@ -21,7 +21,7 @@ fn epoch_from(tick: u64, e: u64, length: u64) -> u64
 }
 
 // The head with its clock moved, and the epochs of its last tick before and after.
-#[derive(Drop)]
+#[derive(Clone, Copy)]
 pub struct Turned {
     pub head: Head,
     pub from: u64,

@@ -41,7 +41,7 @@ pub fn decide_by(
 }
 
 // The answer to a request, with the head after it.
-#[derive(Drop)]
+#[derive(Clone, Copy)]
 pub struct Decided {
     pub answer: Answer,
     pub head: Head,
@@ -58,7 +58,7 @@ pub fn done(s: Setting, h: Head, threads: &mut [u32], tick: u64, bank: u64, thre
 }
 
 // The RowHammer likelihood index of a thread in a bank: its counter in test, its full scale and the quota.
-#[derive(Drop)]
+#[derive(Clone, Copy)]
 pub struct Reading {
     pub c: u64,
     pub scale: u64,

@@ -1,6 +1,8 @@
 // A state that passed the tests, apart from the filters: what functions on it may count on (specs/), and an activation, which stands here. Set-up stands in
 // `setup`, the clock in `clock`, what the decision looks at in `view`, the decision, a done and an index reading in `filterless`. No function here knows the
 // width of a counter.
+#![tactic(auto)]
+
 pub mod clock;
 pub mod filterless;
 pub mod setup;

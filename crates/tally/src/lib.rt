@@ -1,5 +1,7 @@
 // What is counted and reported of one record of a log: how far a log is read, what is said of it, and the step from the model's reply, as numbers,
 // to both. No buffer of the model is known here.
+#![tactic(auto)]
+
 ghost use Rattle.std.specs.Prelude.{◌≡◌, ◌&&◌, cond, ◌≤◌, eqb};
 ghost use Rattle.tally.specs.Settled.{refused_by, settled, Room};
 
@@ -7,7 +9,7 @@ use head::Head;
 use log_format::Entry;
 
 // How far a log is read: whole blocks, records judged, records that the rules open, records of the last block.
-#[derive(Drop)]
+#[derive(Clone, Copy)]
 pub struct Progress {
     pub blocks: u64,
     pub records: u64,
@@ -17,7 +19,7 @@ pub struct Progress {
 
 // What the checker says of a log: a refusal's number and the whole blocks before the one at fault, or the counts of the records judged
 // and of those that the rules open, with the block and the place in it of a record that differs.
-#[derive(Drop)]
+#[derive(Clone, Copy)]
 pub enum Report {
     Refused {
         number: u64,
@@ -36,7 +38,7 @@ pub enum Report {
 }
 
 // After records of a block: the log is over with this report, or it goes on with this progress and head.
-#[derive(Drop)]
+#[derive(Clone, Copy)]
 pub struct After {
     pub over: bool,
     pub report: Report,

@@ -1,6 +1,8 @@
-// The throttle for C, proved against the rules: set-up, request, done and index with 16-bit filter counters, the same with 32-bit ones, and the change-over
-// from one to the other. Every call returns 0 when it answered, and else the number of its refusal; a refused call changes nothing that was lent. Of
-// buffers that overlap nothing is promised.
+// The throttle for C, which the crate `throttle_c` exports, proved against the rules: set-up, request, done and index with 16-bit filter counters, the same
+// with 32-bit ones, and the change-over from one to the other. Every call returns 0 when it answered, and else the number of its refusal; a refused call
+// changes nothing that was lent. Of buffers that overlap nothing is promised.
+#![tactic(auto)]
+
 ghost use Rattle.std.specs.Prelude.{◌≡◌, []};
 ghost use Rattle.rules.specs.Setting.{setting_of};
 ghost use Rattle.rules.specs.Policy.{limits01, limits02, narrow, wide};
@@ -17,8 +19,7 @@ pub use sound::{done, request, setup};
 
 // Set-up: clears the head and the used parts of the buffers.
 // It rules out: a set-up that refuses an accepted setting, clears half of the counters, or leaves stored ticks in the head.
-#[unsafe(no_mangle)]
-pub extern "C" fn throttle_setup(
+pub fn throttle_setup(
     setting: &[u64; 10],
     seeds: &[u16],
     head: &mut [u64; 22],
@@ -35,8 +36,7 @@ pub extern "C" fn throttle_setup(
 // A request for a row: out gets the answer's number, the wait tick and the openings left.
 // It rules out: a throttle that holds all, opens all, never moves its state, or counts a row that waits; one that tells the openings left of before the
 // opening or of the other filter, caps them, or tells some with a wait.
-#[unsafe(no_mangle)]
-pub extern "C" fn throttle_request(
+pub fn throttle_request(
     setting: &[u64; 10],
     seeds: &[u16],
     head: &mut [u64; 22],
@@ -60,8 +60,7 @@ pub extern "C" fn throttle_request(
 
 // A request done: one less in flight for the thread in the bank.
 // It rules out: a done that lowers an index counter, moves the clock when refused, or keeps the clock when not.
-#[unsafe(no_mangle)]
-pub extern "C" fn throttle_done(
+pub fn throttle_done(
     setting: &[u64; 10],
     seeds: &[u16],
     head: &mut [u64; 22],
@@ -82,8 +81,7 @@ pub extern "C" fn throttle_done(
 
 // The RowHammer likelihood index of a thread in a bank: out gets c, D and the quota.
 // It rules out: an invented index, and one that is filter 0's in every epoch.
-#[unsafe(no_mangle)]
-pub extern "C" fn throttle_index(
+pub fn throttle_index(
     setting: &[u64; 10],
     seeds: &[u16],
     head: &mut [u64; 22],
@@ -105,8 +103,7 @@ pub extern "C" fn throttle_index(
 
 // Set-up at the new width: N to 2^20, H to 32,768.
 // It rules out: the limits of the old width, and counters that are cleared as if they were half as wide.
-#[unsafe(no_mangle)]
-pub extern "C" fn throttle_wide_setup(
+pub fn throttle_wide_setup(
     setting: &[u64; 10],
     seeds: &[u16],
     head: &mut [u64; 22],
@@ -122,8 +119,7 @@ pub extern "C" fn throttle_wide_setup(
 
 // A request at the new width.
 // It rules out: a counter that stops at 65,535, or an estimate that is cut to 16 bits.
-#[unsafe(no_mangle)]
-pub extern "C" fn throttle_wide_request(
+pub fn throttle_wide_request(
     setting: &[u64; 10],
     seeds: &[u16],
     head: &mut [u64; 22],
@@ -147,8 +143,7 @@ pub extern "C" fn throttle_wide_request(
 
 // A request done, at the new width.
 // It rules out: filters that are not turned.
-#[unsafe(no_mangle)]
-pub extern "C" fn throttle_wide_done(
+pub fn throttle_wide_done(
     setting: &[u64; 10],
     seeds: &[u16],
     head: &mut [u64; 22],
@@ -169,8 +164,7 @@ pub extern "C" fn throttle_wide_done(
 
 // The RowHammer likelihood index of a thread in a bank, at the new width.
 // It rules out: the limits of the old width.
-#[unsafe(no_mangle)]
-pub extern "C" fn throttle_wide_index(
+pub fn throttle_wide_index(
     setting: &[u64; 10],
     seeds: &[u16],
     head: &mut [u64; 22],
@@ -193,8 +187,7 @@ pub extern "C" fn throttle_wide_index(
 // The change-over of a saved state with 16-bit counters to 32-bit ones: the used part of the new counters becomes the old counters, as numbers.
 // It rules out: counters cut to 15 bits, or taken over for one bank; the limits of the new width, memory that is not tested. All but the new counters is
 // lent for reading, so it moves no clock and clears nothing.
-#[unsafe(no_mangle)]
-pub extern "C" fn throttle_change_over(
+pub fn throttle_change_over(
     setting: &[u64; 10],
     seeds: &[u16],
     head: &[u64; 22],

@@ -1,5 +1,7 @@
 // The two counting Bloom filters of each bank, with 32-bit counters (document 02, a). The estimate of a row stands here, what an activation adds in `count`,
 // what is cleared in `turn`, and what a request turns and reads in `look`. The definitions and the laws are those of the 16-bit filters (crate `filter`).
+#![tactic(auto)]
+
 pub mod count;
 pub mod look;
 pub mod turn;

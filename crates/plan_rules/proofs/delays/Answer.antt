@@ -27,7 +27,7 @@ by_test P false x y f g = g refl
 
 -- where no delay in range is accepted, none is
 none_at_all : (m : Limits) (s : Setting) → ((td : ℕ) → InRange td → delay_refusal m s td ≢ none) → (td : ℕ) → delay_refusal m s td ≢ none
-none_at_all m s f td e = f td (inside m s td e).in-range e
+none_at_all m s f td e = f td (inside m s td e).in_range e
 
 -- where every delay in range gets one refusal
 every : (m : Limits) (s : Setting) (number : ℕ) → Reason m s number → ((td : ℕ) → InRange td → delay_refusal m s td ≢ none) → Says m s (Nothing number)
@@ -68,11 +68,11 @@ empty_large m s h td e =
 no_bound : (m : Limits) (s : Setting) → Other m s → ((td : ℕ) → InRange td → s.l < row_bound (with_delay s td)) → Reason m s 5
 no_bound m s o f = no_delay refl (λ td h. let k = neither m s o td h in (f td h, k.0, k.1))
 
-smallest : (s : Setting) → 2 * s.n < s.l → closed.smallestDelay s ≤ 2 ^ 29 → Smallest s (closed.smallestDelay s)
+smallest : (s : Setting) → 2 * s.n < s.l → closed.smallest_delay s ≤ 2 ^ 29 → Smallest s (closed.smallest_delay s)
 smallest s free h =
     record {
-      in_range_lem = (smallest_low s, h);
-      bounded = bounded s (closed.smallestDelay s) free (le_refl (closed.smallestDelay s));
+      in_range = (smallest_low s, h);
+      bounded = bounded s (closed.smallest_delay s) free (le_refl (closed.smallest_delay s));
       first = λ td h1 k. unbounded s td h1 free k;
     }
 
@@ -111,11 +111,11 @@ above m s o free =
     (λ e.
     let far = leb-false (least_delay s) (greatest_delay m s) e in
     let nothing = empty m s far in
-    by_test (Says m s) (ltb (2 ^ 29) (closed.smallestDelay s)) (Nothing 5) _
+    by_test (Says m s) (ltb (2 ^ 29) (closed.smallest_delay s)) (Nothing 5) _
     (λ k.
-    let large = ltb-true (2 ^ 29) (closed.smallestDelay s) k in
+    let large = ltb-true (2 ^ 29) (closed.smallest_delay s) k in
     (nothing, no_bound m s o (λ td h. unbounded s td h.0 free (omega arith))))
-    (λ k. (nothing, smallest_delay (closed.smallestDelay s) (smallest s free (ltb-false (2 ^ 29) (closed.smallestDelay s) k)) (empty_large m s far) refl)))
+    (λ k. (nothing, smallest_delay (closed.smallest_delay s) (smallest s free (ltb-false (2 ^ 29) (closed.smallest_delay s) k)) (empty_large m s far) refl)))
 
 pub right : Right
 unfolding delays_of
@@ -139,5 +139,5 @@ right m s =
     (λ e. above m s o (leb-false s.l (2 * s.n) e))))
 
 pub delay_plays_no_part : DelayPlaysNoPart
-unfolding delays_of delays_above delays_within least_delay greatest_delay own_greatest closed.smallestDelay delay_refusal
+unfolding delays_of delays_above delays_within least_delay greatest_delay own_greatest closed.smallest_delay delay_refusal
 delay_plays_no_part m s td = refl

@@ -69,7 +69,7 @@ accepted_delay m s td e = accepted m (with_delay s td) some_seeds e
 
 -- what an accepted delay shows
 pub record Inside (m : Limits) (s : Setting) (td : ℕ) : Type 0 where
-  pub in_range_lem : InRange td
+  pub in_range : InRange td
   pub free : 2 * s.n < s.l
   pub low : least_delay s ≤ td
   pub high : td ≤ greatest_delay m s
@@ -83,7 +83,7 @@ inside m s td e =
     let r = a.ranges in
     let high = le-min a.delay (history_most s m.history td r.tfaw_low a.short) in
     record {
-      in_range_lem = (r.td_low, r.td_high);
+      in_range = (r.td_low, r.td_high);
       free = bound_free s td a.bound;
       low = max-le a.gaps (bound_smallest s td r.td_low a.bound);
       high = high;
@@ -98,7 +98,7 @@ inside_large m s td e = inside m (with_mark 0 s) td (only_above m (with_delay s 
 
 pub passes_large : (m : Limits) (s : Setting) (td : ℕ) → delay_refusal m s td ≡ above_profile → InRange td × (least_delay s ≤ td) × (td ≤ greatest_delay m s)
 unfolding least_delay greatest_delay smallest_delay
-passes_large m s td e = let i = inside_large m s td e in (i.in-range, i.low, i.high)
+passes_large m s td e = let i = inside_large m s td e in (i.in_range, i.low, i.high)
 
 -- it has B ≤ L
 pub never_above : (m : Limits) (s : Setting) (td : ℕ) → delay_refusal m s td ≡ above_profile → s.l < row_bound (with_delay s td) → ⊥
@@ -121,8 +121,8 @@ by_own m s td o free low high =
     let small : smallest_delay s ≤ td = le_trans (le-max_right s.trc (smallest_delay s)) low in
     let epoch : td ≤ epoch_length s = le_trans high (min-le_left (epoch_length s) (m.history / 4 * s.tfaw)) in
     let places : td ≤ m.history / 4 * s.tfaw = le_trans high (min-le_right (epoch_length s) (m.history / 4 * s.tfaw)) in
-    let in_range_lem : InRange td = (le_trans r.trc_low gaps, greatest_high s td r.w_high epoch) in
-    by_profile m (with_delay s td) (any_delay m s td in_range_lem ∙ o.fields) (other_room m s o) gaps epoch (history_ok_lem s m.history td r.tfaw_low places) (bounded s td free small)
+    let in_range : InRange td = (le_trans r.trc_low gaps, greatest_high s td r.w_high epoch) in
+    by_profile m (with_delay s td) (any_delay m s td in_range ∙ o.fields) (other_room m s o) gaps epoch (history_ok_lem s m.history td r.tfaw_low places) (bounded s td free small)
 
 pub accept_between : (m : Limits) (s : Setting) (td : ℕ) → Other m s → 2 * s.n < s.l → s.banks ≤ (profile_of s.profile).banks
     → least_delay s ≤ td → td ≤ own_greatest m s → AcceptedDelay m s td

@@ -75,7 +75,7 @@ every_five m s r wide f g =
 no_smallest : (m : Limits) (s : Setting) (d : ℕ) → Smallest s d → ((td : ℕ) → InRange td → (s.l < row_bound (with_delay s td)) × (delay_refusal m s td ≢ out_of_range) × (delay_refusal m s td ≢ short_window)) → ⊥
 no_smallest m s d x g =
     let a = x.bounded in
-    let b = (g d x.in-range).0 in
+    let b = (g d x.in_range).0 in
     omega arith
 
 same_smallest : (s : Setting) (c d : ℕ) → Smallest s c → Smallest s d → c ≡ d
@@ -84,7 +84,7 @@ same_smallest s c d x y = neither_below c d (less s c d x y) (less s d c y x)
     less : (s : Setting) (c d : ℕ) → Smallest s c → Smallest s d → c < d → ⊥
     less s c d x y h =
         let a = x.bounded in
-        let b = y.first c x.in-range.0 h in
+        let b = y.first c x.in_range.0 h in
         omega arith
 
 -- a delay that gets 16, where every delay in range gets one refusal: it is in range
@@ -99,13 +99,13 @@ no_above m s td e g = never_above m s td e (g td (passes_large m s td e).0).0
 same_reason : (m : Limits) (s : Setting) (i j : ℕ) → 4 ≤ m.history → Reason m s i → Reason m s j → i ≡ j
 same_reason m s i j wide (every_delay r e f) (every_delay q k g) = e ∙ ap refusal_number (sym (f 1 one) ∙ g 1 one) ∙ sym k
 same_reason m s i j wide (every_delay r e f) (only_profile td k x) = e ∙ same_above m s td r x f ∙ sym k
-same_reason m s i j wide (every_delay r e f) (smallest_delay d x n k) = e ∙ ap refusal_number (sym (f d x.in-range)) ∙ sym k
+same_reason m s i j wide (every_delay r e f) (smallest_delay d x n k) = e ∙ ap refusal_number (sym (f d x.in_range)) ∙ sym k
 same_reason m s i j wide (every_delay r e f) (no_delay k g) = e ∙ ap refusal_number (every_five m s r wide f g) ∙ sym k
 same_reason m s i j wide (only_profile td k x) (every_delay r e f) = k ∙ sym (same_above m s td r x f) ∙ sym e
 same_reason m s i j wide (only_profile td k x) (only_profile te l y) = k ∙ sym l
 same_reason m s i j wide (only_profile td k x) (smallest_delay d y n l) = absurd (n td x)
 same_reason m s i j wide (only_profile td k x) (no_delay l g) = absurd (no_above m s td x g)
-same_reason m s i j wide (smallest_delay d x n k) (every_delay r e f) = k ∙ ap refusal_number (f d x.in-range) ∙ sym e
+same_reason m s i j wide (smallest_delay d x n k) (every_delay r e f) = k ∙ ap refusal_number (f d x.in_range) ∙ sym e
 same_reason m s i j wide (smallest_delay d y n l) (only_profile td k x) = absurd (n td x)
 same_reason m s i j wide (smallest_delay c x n k) (smallest_delay d y o e) = k ∙ ap (λ (z : ℕ). refusal_number (delay_refusal m s z)) (same_smallest s c d x y) ∙ sym e
 same_reason m s i j wide (smallest_delay d x n k) (no_delay e g) = absurd (no_smallest m s d x g)

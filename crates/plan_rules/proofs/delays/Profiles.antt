@@ -106,7 +106,7 @@ module _ (m : Limits) (s : Setting) where
         go : Reason m large number → Reason m s number
         go (every_delay r n f) = every_delay r n (λ td h. same td ∙ f td h)
         go (only_profile td n x) = absurd (never td (same td ∙ x))
-        go (smallest_delay d x f n) = smallest_delay d (record { in_range_lem = x.in-range; bounded = x.bounded; first = x.first }) never (n ∙ ap refusal_number (sym (same d)))
+        go (smallest_delay d x f n) = smallest_delay d (record { in_range = x.in_range; bounded = x.bounded; first = x.first }) never (n ∙ ap refusal_number (sym (same d)))
         go (no_delay n g) = no_delay n (λ td h. let z = g td h in (z.0, (λ y. z.1 (sym (same td) ∙ y)), λ y. z.2 (sym (same td) ∙ y)))
 
 pub sixteen : Sixteen

@@ -9,7 +9,7 @@ pub cases : Cases
 unfolding setting_of history_length row_bound fields_in_range seeds_in_range setting_refusal delay_refusal smallest_delay least_delay greatest_delay own_greatest delays_within delays_above delays_of
 cases =
     record {
-      table_one = refl;
+      by_table_one = refl;
       one_less = refl;
       published = refl;
       below_published = refl;

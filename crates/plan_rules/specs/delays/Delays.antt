@@ -54,7 +54,7 @@ pub record Ends (m : Limits) (s : Setting) (least greatest : ℕ) : Type 0 where
 
 -- d is the smallest delay in range with B ≤ L
 pub record Smallest (s : Setting) (d : ℕ) : Type 0 where
-  pub in_range_lem : InRange d
+  pub in_range : InRange d
   pub bounded : Bounded s d
   pub first : (td : ℕ) → 1 ≤ td → td < d → s.l < row_bound (with_delay s td)
 

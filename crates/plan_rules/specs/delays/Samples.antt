@@ -17,8 +17,8 @@ small_one n l banks = setting_of (256000000 ∷ 185 ∷ 140 ∷ n ∷ 0 ∷ l �
 
 pub record Cases : Type 0 where
   -- "W 256,000,000, tRC 185, N 4,096, tD 31,065: B = 16,384. With tD 31,064: 16,385."
-  pub table_one : delays_of limits01 (table_one 4096 0 16384) ≡ Between 31065 143360
-  pub one_less_lem : delay_refusal limits01 (table_one 4096 0 16384) 31064 ≡ above_limit
+  pub by_table_one : delays_of limits01 (table_one 4096 0 16384) ≡ Between 31065 143360
+  pub one_less : delay_refusal limits01 (table_one 4096 0 16384) 31064 ≡ above_limit
   -- BlockHammer's own N, 8,192, has no delay under L 16,384, and 8,191 needs a history above 4,096 places
   pub published : delays_of limits01 (table_one 8192 0 16384) ≡ Nothing 5
   pub below_published : delays_of limits01 (table_one 8191 0 16384) ≡ Nothing 4

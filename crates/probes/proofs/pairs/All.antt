@@ -34,13 +34,13 @@ least_of Late = 0
 least_of (Spread a g l) = l
 
 pub record Told (b : Bool) (a a' : Bool) (g g' l l' : ℕ) : Type 0 where
-  pub on_time_lem : T b
+  pub on_time : T b
   pub alike_is : a ≡ a'
   pub greatest_is : g ≡ g'
   pub least_is : l ≡ l'
 
 spread_told : (b a a' : Bool) (g g' l l' : ℕ) → Spread a g l ≡ cond b (Spread a' g' l') Late → Told b a a' g g' l l'
-spread_told true a a' g g' l l' e = record { on_time_lem = tt; alike_is = ap alike_of e; greatest_is = ap greatest_of e; least_is = ap least_of e }
+spread_told true a a' g g' l l' e = record { on_time = tt; alike_is = ap alike_of e; greatest_is = ap greatest_of e; least_is = ap least_of e }
 spread_told false a a' g g' l l' e = absurd (subst (λ q. T (not q)) (ap is_late e) tt)
 
 late_told : (b a : Bool) (g l : ℕ) → Late ≡ cond b (Spread a g l) Late → T (not b)
@@ -142,7 +142,7 @@ module _ (x y : Probe) where
 
   pub told_fits : {a : Bool} {h k : ℕ} → Told all_on_time a (alike x y) h g k l → (h ≤ 2 ^ 63) × (k ≤ 2 ^ 63)
   told_fits t =
-      let second = and_r (every x.count (on_time x.ticks)) (every y.count (on_time y.ticks)) t.on-time in
+      let second = and_r (every x.count (on_time x.ticks)) (every y.count (on_time y.ticks)) t.on_time in
       let m = greatest_fits x.ticks y.ticks paired (every_fewer paired y.count (on_time y.ticks) (omega arith) second) in
       let n = least_fits x.ticks y.ticks paired in
       (subst (λ v. v ≤ 2 ^ 63) (sym t.greatest_is) m, subst (λ v. v ≤ 2 ^ 63) (sym t.least_is) n)

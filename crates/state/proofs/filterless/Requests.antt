@@ -235,7 +235,7 @@ module _ {m : Limits} (q : Asked m) where
         let k = q.taken in
         let rules = opened_rules p q.s at moved q.bank q.thread q.row (sym (decision_at decision refl) ∙ decision_opens decision e) in
         subst (λ x. get_or x.threads (thread_cell q.s q.bank q.thread 2) 0 < 255) (sym turned_is)
-        (fits.few-flying p (in_force_regular m) q.s q.seeds moved q.bank q.thread k.setting k.bank_in k.thread_in rules.0)
+        (fits.few_flying p (in_force_regular m) q.s q.seeds moved q.bank q.thread k.setting k.bank_in k.thread_in rules.0)
 
     module _ (d : Decision) (ed : d ≡ decision) where
       -- what a request that has this answer and leaves this state is to the rules

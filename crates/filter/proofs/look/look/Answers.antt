@@ -1,0 +1,6 @@
+-- `look` turns the filters and reads both estimates.
+use borrow.Author.Rules.{rules}
+use Rattle.filter.proofs.look.look.Goals as goal
+
+pub returns : goal.returns
+returns c = (c.turn.ensures, c.bank_estimate-active.ensures, c.bank_estimate-other.ensures)

@@ -1,0 +1,12 @@
+-- `turn::clear_filter` meets its contract. The loop has cleared the filter in the first b banks.
+use Prim.Native.Nat.{◌-◌}
+use native.Mathlib.Omega.{arith}
+use Rattle.rules.proofs.Clearing.{Cleared, cleared_all}
+use Rattle.filter.proofs.turn.Clearing.{banks_of, filter_none, filter_more}
+use Rattle.filter.proofs.turn.clear_filter.Given as goal
+
+abbrev pub invariant-loop-b : goal.invariant-loop-b
+invariant-loop-b l = Cleared (banks_of l.f) l.banks l.initial.counters l.b l.counters
+
+abbrev pub decreases-loop-b : goal.decreases-loop-b
+decreases-loop-b l = l.banks - l.b

@@ -1,0 +1,7 @@
+-- `lanes::spread` meets its contract.
+use borrow.Author.Rules.{rules}
+use Rattle.hash.proofs.lanes.Masks.{spread_is}
+use Rattle.hash.proofs.lanes.spread.Goals as goal
+
+pub returns : goal.returns
+returns c = spread_is c.args.bits

@@ -1,0 +1,10 @@
+-- `clear32` meets its contract. The invariant: the cells passed are cleared, the others are as they were.
+use Rattle.std.proofs.Common.{◌-◌}
+use Rattle.rules.proofs.Clearing.{Cleared, first}
+use Rattle.history.proofs.clearing.clear32.Given as goal
+
+abbrev pub invariant-loop-i : goal.invariant-loop-i
+invariant-loop-i l = Cleared first l.n l.initial.cells l.i l.cells
+
+abbrev pub decreases-loop-i : goal.decreases-loop-i
+decreases-loop-i l = l.n - l.i

@@ -1,0 +1,13 @@
+-- `put_line` puts three parts, each at the end of the one before.
+use native.Mathlib.Omega.{arith}
+use lib.ListN.{take}
+use Rattle.report.proofs.line.Parts.{line_law}
+use Rattle.report.proofs.line.put_line.Goals as goal
+
+pub returns : goal.returns
+returns c =
+    let a = c.args in
+    let q1 = c.put-a.ensures in
+    let q2 = c.put_decimal-b.ensures in
+    let q3 = c.put.ensures in
+    (omega (arith, q1, q2, q3), line_law a.word.now a.n (take a.at a.out.now) _ _ _ q1.1 q2.1 q3.1)
