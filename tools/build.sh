@@ -165,6 +165,18 @@ unlock_target() {
 
 # Before a build: a file for what it prints, and the record of the files.
 begin_build() {
+    mkdir -p "$target" 2>/dev/null || fail "$target cannot be made"
+    { : >"$record.out"; } 2>/dev/null || fail "$record.out cannot be written"
+    { list_files >"$record.begun"; } 2>/dev/null || fail "$record.begun cannot be written"
+}
+
+# After one that ended well. The record is not older than the product.
+end_build() {
+    touch "$record.begun"
+    mv "$record.begun" "$record.files"
+}
+
+build() {
     local output=$record.out shown=${product#"$root/"}
     begin_build
     printf '%s: proving and building %s, %d crates; the first time this takes minutes\n' "$0" "$shown" ${#members[@]} >&2 || true

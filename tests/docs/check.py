@@ -6,6 +6,7 @@ Prints a line for each fault, and the counts of what was looked at. The status i
 look at. `CHECKS` at the end lists the checks.
 """
 
+import os
 import re
 import sys
 from pathlib import Path
@@ -15,8 +16,8 @@ ROOT = Path(sys.argv[1]).resolve()
 LINE = {"README.md": 140, "CHANGELOG.md": 140, "CONTRIBUTING.md": 140}
 DOCS_LINE = 160
 ENDINGS = {".md", ".h", ".c", ".rs", ".py", ".rt", ".antt", ".txt", ".log", ".expected", ".cut", ".trace", ".edit"}
-# Documents name what rt makes, and these are not files of the repository.
-MADE = {"target"}
+# Documents name what is built, and these are not files of the repository: target/ at the top, and out/ of a crate.
+MADE = {"target", "out"}
 # The document whose names are those of theorems.
 PROVED = "docs/what-is-proved.md"
 
@@ -79,9 +80,25 @@ def documents():
 DOCUMENTS = documents()
 # The notes on changes before the crates were joined; docs/changes/house.md says where each crate of theirs is now.
 PAST = {f"docs/changes/{name}.md" for name in "a b cost crates d e f g i k m shape statements".split()}
-CRATES = {line.split(":")[0] for line in read("crates.txt").split("\n") if ":" in line and not line.startswith("#")}
+# A crate's line of crates.txt, as NAME: DEPENDENCIES or NAME staticlib: DEPENDENCIES; the static library NAME_c has the archive libNAME.a.
+LISTED = [line.split(":")[0].split() for line in read("crates.txt").split("\n") if ":" in line and not line.startswith("#")]
+CRATES = {words[0] for words in LISTED}
+ARCHIVES = {words[0].removesuffix("_c") for words in LISTED if "staticlib" in words[1:]}
 TOP = {p.name for p in ROOT.iterdir()} - MADE - {".git"}
-FILES = [p for top in sorted(TOP) for p in [ROOT / top, *(ROOT / top).rglob("*")] if p.is_file()]
+
+
+def files(top):
+    """The files of a folder, without what rt made in it."""
+    if top.is_file():
+        return [top]
+    found = []
+    for at, folders, names in os.walk(top):
+        folders[:] = [name for name in folders if name not in MADE]
+        found += [Path(at) / name for name in names]
+    return sorted(found)
+
+
+FILES = [p for top in sorted(TOP) for p in files(ROOT / top)]
 NAMES = {p.name for p in FILES}
 # Words of a path that stand for any name.
 ANY = re.compile(r"\b(NAME|LABEL|LETTER|MODULE)\b")
@@ -107,14 +124,14 @@ def exists(word, folder):
     pattern = ANY.sub("*", word.removeprefix("./").strip("/"))
     within = [f"crates/*/{pattern}"]
     if pattern.count("/") == 1:
-        within += [f"crates/{pattern.replace('/', folder)}.edit" for folder in ("/must-fail/", "/close-misses/")]
+        within.append(f"crates/{pattern.replace('/', '/must-fail/')}.edit")
     return any(any(base.glob(pattern)) for base in (ROOT, ROOT / "crates", folder)) or any(any(ROOT.glob(w)) for w in within)
 
 
 def looks_like_path(word):
     """Whether a word of a code span looks like a file or folder of the repository."""
     first = word.removeprefix("./").split("/")[0]
-    if first in MADE or not re.fullmatch(r"[\w./*-]*\w[\w./*-]*", word):
+    if MADE & set(word.split("/")) or not re.fullmatch(r"[\w./*-]*\w[\w./*-]*", word):
         return False
     if word.startswith("./"):
         return True
@@ -145,18 +162,25 @@ def paths():
 
 
 def crates():
-    """Every crate that a command of rt names is listed, and what stands behind `CRATE::` is a module, a function or a type of it."""
+    """Every crate that a command names is listed, and what stands behind `CRATE::` is a module, a function or a type of it. Most commands of rt
+    take no crate, but work in its folder."""
     within = {crate: set() for crate in CRATES}
     for path in (ROOT / "crates").glob("*/src/**/*.rt"):
         crate = path.relative_to(ROOT / "crates").parts[0]
         text = path.read_text(encoding="utf-8")
-        within.setdefault(crate, set()).update({path.stem, *re.findall(r"\b(?:fn|struct|enum|use [\w:]*::) ?(\w+)", text)})
+        used = " ".join(re.findall(r"\buse [\w:]*::\{([^}]*)\}", text))
+        named = re.findall(r"\b(?:fn|struct|enum|use [\w:]*::) ?(\w+)", text)
+        within.setdefault(crate, set()).update({path.stem, *named, *re.findall(r"\w+", used)})
     for document in (d for d in DOCUMENTS if d.path not in PAST):
         for text in document.spans + document.code:
-            for name in re.findall(r"\brt (?:check|dev|staticlib|must-fail|goals|try) ([a-z_]+)\b", text):
+            for command, words in re.findall(r"(\brt (?:ci|must-fail)|tools/staticlib)((?: [a-z_]+\b)+)", text):
+                for name in words.split():
+                    count("crates")
+                    if name not in (CRATES if command.startswith("rt") else ARCHIVES):
+                        fault(f"{document.path}: {command} is given {name}, which is no crate")
+            for verb, name in re.findall(r"\brt (check|dev|staticlib|lib|run|test|try|fmt|tidy|goals) ([a-z_]+)\b", text):
                 count("crates")
-                if name not in CRATES:
-                    fault(f"{document.path}: rt is given {name}, which is no crate")
+                fault(f"{document.path}: rt {verb} is given {name}, and takes no crate")
         for crate, rest in re.findall(r"\b([a-z_]+)::([\w:]+)", " ".join(document.spans)):
             count("modules", crate in CRATES)
             if crate in CRATES and not set(rest.split("::")) <= within[crate]:
@@ -176,9 +200,9 @@ def c_names():
 
 
 def theorems():
-    """Every name in docs/what-is-proved.md is one of a specs file if it has a capital, else a crate, a function or a name of C."""
+    """Every name in docs/what-is-proved.md is one of a specs file, or, if it has no capital, a crate, a function or a name of C."""
     sources = sorted((ROOT / "crates").glob("*/specs/**/*.antt"))
-    stated = set(re.findall(r"^\s*(?:\w+ )?pub (?:record |data )?([\w′-]+)", "\n".join(map(read, sources)), re.M))
+    stated = set(re.findall(r"^\s*(?:\w+ )?pub (?:record |data )?([\w'-]+)", "\n".join(map(read, sources)), re.M))
     code = "\n".join(map(read, sorted((ROOT / "crates").glob("*/src/**/*.rt"))))
     functions = set(re.findall(r"\bfn (\w+)", code))
     words = {"ensures", "requires", "rt"}
@@ -190,20 +214,23 @@ def theorems():
                 count("theorems")
                 if name not in stated:
                     fault(f"{PROVED}: no specs file states {name}")
+            elif name in stated:
+                count("theorems")
             elif name not in functions | CRATES | words:
-                fault(f"{PROVED}: {name} is neither a crate nor a function")
+                fault(f"{PROVED}: {name} is neither a crate nor a function, and no specs file states it")
 
 
 def names():
-    """Every name with a capital in the other documents, but those on past changes, is a word or a file of the sources."""
+    """Every name of several words in the other documents, but those on past changes, is a word or a file of the sources."""
     sources = [p for p in FILES if p.suffix in {".rt", ".antt", ".h", ".c", ".rs"}]
     known = set(re.findall(r"\w+", "\n".join(map(read, sources)))) | {p.stem for p in sources}
     for document in DOCUMENTS:
         if document.path == PROVED or document.path.startswith("docs/changes/"):
             continue
-        for name in (s for s in document.spans if re.fullmatch(r"(?=\w*[a-z])(?=\w*[A-Z])[A-Za-z]\w*", s)):
+        for name in (s for s in document.spans if re.fullmatch(r"(?=\w*[a-z])(?=\w*[A-Z])[A-Za-z]\w*|[a-z]+(_\w+)+", s)):
             count("names")
-            if name not in known and not ANY.fullmatch(name):
+            # The toolchain's own names begin with rattle_.
+            if name not in known and not ANY.fullmatch(name) and not name.startswith("rattle_"):
                 fault(f"{document.path}: no source has {name}")
 
 

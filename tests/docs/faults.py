@@ -14,8 +14,8 @@ from pathlib import Path
 
 ROOT = Path(sys.argv[1]).resolve()
 CHECK = Path(__file__).with_name("check.py")
-# Not copied: what is made.
-MADE = {".git", "target"}
+# Not copied: what is made, in target/ and in out/ of each crate.
+MADE = {".git", "target", "out"}
 
 
 def added(text):
@@ -45,7 +45,11 @@ FAULTS = [
     ("README.md", added("`./no-command`"), "there is no ./no-command"),
     ("README.md", added("```sh\n./no-command 1\n```"), "there is no ./no-command, in:"),
     ("README.md", added("    ./check-log samples/none.log"), "there is no samples/none.log, in:"),
-    ("docs/c-interface.md", added("`rt staticlib none`"), "which is no crate"),
+    ("docs/c-interface.md", added("`tools/staticlib none`"), "which is no crate"),
+    ("docs/c-interface.md", added("`tools/staticlib throttle log none`"), "which is no crate"),
+    ("docs/c-interface.md", added("`tools/staticlib throttle_c`"), "which is no crate"),
+    ("docs/c-interface.md", added("`rt must-fail none`"), "which is no crate"),
+    ("docs/c-interface.md", added("`rt staticlib throttle`"), "takes no crate"),
     ("docs/c-interface.md", added("`throttle_none(1)`"), "no header has throttle_none"),
     ("docs/what-is-proved.md", added("`NoSuchTheorem`"), "no specs file states NoSuchTheorem"),
     ("crates/assurances/specs/Claims.antt", lambda old: old.replace("WaitIsLater", "WaitIsLate"), "no specs file states WaitIsLater"),
@@ -101,7 +105,7 @@ def main():
         root = Path(work)
         for part in (p for p in ROOT.iterdir() if p.name not in MADE):
             if part.is_dir():
-                shutil.copytree(part, root / part.name)
+                shutil.copytree(part, root / part.name, ignore=lambda folder, names: MADE & set(names))
             else:
                 shutil.copy(part, root / part.name)
         for name, change in [("README.md", added("A plain sentence.")), *GOOD]:

@@ -1,0 +1,33 @@
+-- `fill` makes reads until one is the last.
+use Prim.Native.Nat.{◌-◌, ◌<◌}
+use mathlib.Core.Path.{◌≡◌, refl}
+use mathlib.Core.List.{[]}
+use native.Mathlib.Omega.{arith}
+use lib.ListN.{length}
+use Rattle.check_log.specs.declared.input.Read.TheVariants.{More}
+use Rattle.check_log.specs.Reads.{after_reads, reads_from}
+use Rattle.check_log.proofs.input.Given.{Reads, grown, reads_more}
+use borrow.Author.Rules.{rules}
+use Rattle.check_log.proofs.input.fill.Goals as goal
+
+pub loop-bytes-init : goal.loop-bytes-init
+unfolding after_reads reads_from
+loop-bytes-init c = (omega arith, refl, ([], refl))
+
+pub after_read-requires : goal.after_read-requires
+after_read-requires c =
+    omega (arith, c.read_rest-got.auto, c.loop-bytes.invariant)
+
+pub loop-bytes-smaller : goal.loop-bytes-smaller
+loop-bytes-smaller c =
+    let g = grown _ _ _ _ _ c.in-More.ensures refl in
+    omega (arith, c.read_rest-got.auto, c.loop-bytes.invariant)
+
+pub loop-bytes-preserved : goal.loop-bytes-preserved
+loop-bytes-preserved c =
+    let g = grown _ _ _ _ _ c.in-More.ensures refl in
+    (omega (arith, c.read_rest-got.auto, c.loop-bytes.invariant), omega (arith, c.read_rest-got.auto, c.loop-bytes.invariant), reads_more _ _ _ _ _ _ c.in-More.ensures refl (omega (arith, c.read_rest-got.auto, c.loop-bytes.invariant)) c.loop-bytes.invariant.2)
+
+pub returns-in-Over : goal.returns-in-Over
+returns-in-Over c =
+    reads_more _ _ _ _ _ _ c.in-Over.ensures refl (omega (arith, c.read_rest-got.auto, c.loop-bytes.invariant)) c.loop-bytes.invariant.2

@@ -1,0 +1,16 @@
+-- `fill` makes reads until one is the last.
+use Prim.Native.Nat.{◌-◌, ◌<◌}
+use mathlib.Core.Path.{◌≡◌, refl}
+use mathlib.Core.List.{[]}
+use native.Mathlib.Omega.{arith}
+use lib.ListN.{length}
+use Rattle.check_log.specs.declared.input.Read.TheVariants.{More}
+use Rattle.check_log.specs.Reads.{after_reads, reads_from}
+use Rattle.check_log.proofs.input.Given.{Reads, grown, reads_more}
+use Rattle.check_log.proofs.input.fill.Given as goal
+
+abbrev pub invariant-loop-bytes : goal.invariant-loop-bytes
+invariant-loop-bytes l = (l.done < length l.block) × (length l.block ≡ length l.initial.block) × Reads (length l.initial.block) (More l.done)
+
+abbrev pub decreases-loop-bytes : goal.decreases-loop-bytes
+decreases-loop-bytes l = length l.block - l.done

@@ -1,0 +1,9 @@
+-- `are_spans`: each turn of the loop is one word nearer to the last.
+use Prim.Native.Nat.{◌-◌}
+use Rattle.plan_settings.proofs.span_table.are_spans.Given as goal
+
+abbrev pub invariant-loop-i : goal.invariant-loop-i
+invariant-loop-i l = Unit {0}
+
+abbrev pub decreases-loop-i : goal.decreases-loop-i
+decreases-loop-i l = l.count - l.i
