@@ -71,7 +71,11 @@ fn is_window(rt: &HostRuntime, w: u64) -> io::Result<bool> {
 }
 
 // Every argument is in its range at these limits; the first that is not is reported.
-pub fn are_in_range(rt: &HostRuntime, limits: rules::Limits, s: rules::Setting) -> io::Result<bool> {
+pub fn are_in_range(
+    rt: &HostRuntime,
+    limits: rules::Limits,
+    s: rules::Setting,
+) -> io::Result<bool> {
     if !is_window(rt, s.w)? {
         return Ok(false);
     }

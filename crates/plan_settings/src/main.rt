@@ -34,7 +34,13 @@ fn print_delays(rt: &HostRuntime, s: rules::Setting, width: Width, is_one: bool)
 }
 
 // The delays at this width, of the profile with this mark, from the words behind the options.
-fn read_delays(rt: &HostRuntime, options: usize, width: Width, mark: u64, is_one: bool) -> io::Result<()>
+fn read_delays(
+    rt: &HostRuntime,
+    options: usize,
+    width: Width,
+    mark: u64,
+    is_one: bool,
+) -> io::Result<()>
     requires { (options ≤ 3) × ServedWidth width }
 {
     let t = read_timing(rt, options)?;
@@ -67,7 +73,12 @@ fn read_spans(rt: &HostRuntime, options: usize, mark: u64, count: usize) -> io::
     let n = field(rt, options, 5)?;
     let td = field(rt, options, 6)?;
     if t.ok && n.ok && td.ok {
-        print_spans(rt, setting_of(t, n.value, td.value, mark), options + 7, count)?;
+        print_spans(
+            rt,
+            setting_of(t, n.value, td.value, mark),
+            options + 7,
+            count,
+        )?;
     }
     Ok(())
 }

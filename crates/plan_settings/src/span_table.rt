@@ -37,7 +37,10 @@ fn print_refusal(out: Stdout, refusal: u32, mark: u64) -> io::Result<()> {
     print_named(out, b"The setting is refused: refusal ", refusal as u64)?;
     match refusal {
         1 => print(out, b": a number is out of its range\n"),
-        2 => print(out, b": W - 1 is below 2 x N x tRC, two bursts of N do not fit in the window\n"),
+        2 => print(
+            out,
+            b": W - 1 is below 2 x N x tRC, two bursts of N do not fit in the window\n",
+        ),
         3 => print(out, b": tD is below tRC or above W / 2\n"),
         4 => print_history_limit(out),
         16 => print_profile_limit(out, mark),
@@ -92,7 +95,12 @@ fn print_lines(rt: &HostRuntime, s: rules::Setting, first: usize, count: usize) 
 }
 
 // The table for these X, or the refusal of the setting.
-pub fn print_spans(rt: &HostRuntime, s: rules::Setting, first: usize, count: usize) -> io::Result<()> {
+pub fn print_spans(
+    rt: &HostRuntime,
+    s: rules::Setting,
+    first: usize,
+    count: usize,
+) -> io::Result<()> {
     print_head(rt.stdout(), s)?;
     let answer = plan::spans::span(s, 1);
     match answer {

@@ -47,8 +47,14 @@ fn print_reason(out: Stdout, refusal: u32, limits: rules::Limits, mark: u64) -> 
     print_named(out, b"refusal ", refusal as u64)?;
     match refusal {
         1 => print(out, b": a field is out of its range\n"),
-        2 => print(out, b": W - 1 is below 2 x N x tRC, two bursts of N do not fit in the window\n"),
-        3 => print(out, b": the smallest delay with B at most L is below tRC or above W / 2\n"),
+        2 => print(
+            out,
+            b": W - 1 is below 2 x N x tRC, two bursts of N do not fit in the window\n",
+        ),
+        3 => print(
+            out,
+            b": the smallest delay with B at most L is below tRC or above W / 2\n",
+        ),
         4 => print_history_limit(out, limits),
         16 => print_profile_limit(out, mark),
         _ => print(out, b": B is above L with every delay from 1 to 2^29\n"),

@@ -14,7 +14,6 @@ use Rattle.refusal.specs.Tests.{lent_test}
 use Rattle.widths.proofs.ChangeOver.{Taken}
 use Rattle.interface.specs.Left.{found}
 use Rattle.change_over.proofs.Changes.{passed, left_refused, left_taken}
-use borrow.Author.Rules.{rules}
 use Rattle.change_over.proofs.change_over.Goals as goal
 
 pub lent_refusal-code-requires : goal.lent_refusal-code-requires

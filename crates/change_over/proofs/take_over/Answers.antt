@@ -1,12 +1,11 @@
 -- `take_over` meets its contract. The invariant: the first i counters are copied, the others are as they were.
-use Prim.Native.Nat.{◌-◌, ◌≤◌}
+use Prim.Native.Nat.{◌-◌}
 use mathlib.Core.Path.{◌≡◌, refl, ap, ◌∙◌}
 use native.Mathlib.Omega.{arith}
 use lib.ListN.{length, get_or, set}
 use Rattle.widths.specs.ChangeOver.{copied}
 use Rattle.widths.proofs.ChangeOver.{copied_rest}
 use Rattle.change_over.proofs.Changes.{copied_none, copied_more}
-use borrow.Author.Rules.{rules}
 use Rattle.change_over.proofs.take_over.Goals as goal
 
 pub loop-i-init : goal.loop-i-init

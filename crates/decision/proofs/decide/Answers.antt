@@ -6,7 +6,6 @@ use borrow.Author.Tests.{lt-ltb, le-ltb, le-leb, lt-leb}
 use Rattle.rules.specs.Decision.{first_failing}
 use Rattle.decision.specs.Numbers.{decide_from}
 use Rattle.decision.proofs.Laws.{decide_tests}
-use borrow.Author.Rules.{rules}
 use Rattle.decision.proofs.decide.Goals as goal
 
 pub returns-then-v : goal.returns-then-v

@@ -1,7 +1,6 @@
 -- `gap_end` is the first tick at which the gap is past.
 use native.Mathlib.Omega.{arith}
 use borrow.Author.Tests.{eq-eqb, ne_eqb}
-use borrow.Author.Rules.{rules}
 use Rattle.decision.proofs.gap_end.Goals as goal
 
 pub returns-then-stored-eq0 : goal.returns-then-stored-eq0

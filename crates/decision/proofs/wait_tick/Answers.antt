@@ -1,7 +1,6 @@
 -- `wait_tick` is the closed form, case by case.
 use borrow.Author.Tests.{lt-ltb, le-ltb, le-leb, lt-leb}
 use Rattle.rules.specs.Claims.{closed_tick}
-use borrow.Author.Rules.{rules}
 use Rattle.decision.proofs.wait_tick.Goals as goal
 
 pub returns-then-v-gaps : goal.returns-then-v-gaps

@@ -1,6 +1,5 @@
 -- `filter::bank_estimate` meets its contract: the estimate with the places of the filter that is asked for.
 use Rattle.filter.proofs.Parts.{pick_first, pick_second}
-use borrow.Author.Rules.{rules}
 use Rattle.filter.proofs.bank_estimate.Goals as goal
 
 pub returns-then-f-eq0 : goal.returns-then-f-eq0

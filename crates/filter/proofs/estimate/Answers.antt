@@ -1,6 +1,5 @@
 -- `filter::estimate` meets its contract: the least of the two leasts is the rules' estimate.
 use Rattle.filter.proofs.Parts.{estimate_part}
-use borrow.Author.Rules.{rules}
 use Rattle.filter.proofs.estimate.Goals as goal
 
 pub returns : goal.returns

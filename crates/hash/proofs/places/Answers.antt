@@ -2,7 +2,6 @@
 use mathlib.Core.Path.{sym, ap, ◌∙◌}
 use Rattle.rules.specs.Hash.{places}
 use Rattle.hash.proofs.Laws.{within}
-use borrow.Author.Rules.{rules}
 use Rattle.hash.proofs.places.Goals as goal
 
 pub returns-then-table : goal.returns-then-table

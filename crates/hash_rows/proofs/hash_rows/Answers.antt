@@ -1,14 +1,12 @@
 -- `hash_rows` joins the hashes of the rows one by one.
-use Prim.Native.Nat.{◌-◌, ◌≤◌}
+use Prim.Native.Nat.{◌-◌}
 use mathlib.Core.Path.{◌≡◌, refl, sym, ◌∙◌}
 use mathlib.Core.Bool.{true}
 use native.Mathlib.Omega.{arith}
 use lib.ListN.{length}
 use borrow.Author.Tests.{lt-leb, le-leb}
 use Rattle.rules.specs.Setting.{seeds_in_range}
-use Rattle.hash_rows.specs.Rows.{hashed_to}
 use Rattle.hash_rows.proofs.Rows.{one_more, all_rows, none_ranged}
-use borrow.Author.Rules.{rules}
 use Rattle.hash_rows.proofs.hash_rows.Goals as goal
 
 pub returns-then-differing-gt1023 : goal.returns-then-differing-gt1023

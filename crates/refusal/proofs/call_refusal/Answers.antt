@@ -1,5 +1,5 @@
 -- `call_refusal` gives the refusals of what is lent, then 8 and 9.
-use Rattle.std.proofs.Common.{◌≡◌, true, sym, refl, ap, ◌∙◌, rules}
+use Rattle.std.proofs.Common.{◌≡◌, true, sym, refl, ap, ◌∙◌}
 use Rattle.head.specs.declared.Head.{Head}
 use Rattle.rules.specs.declared.Setting.{Setting}
 use Rattle.rules.specs.Answers.{Refusal, refusal_number, or_else}

@@ -1,5 +1,5 @@
 -- `done_refusal` gives the refusals of a call, then 10.
-use Rattle.std.proofs.Common.{eqb, length, get_or, sym, ap, ◌∙◌, rules}
+use Rattle.std.proofs.Common.{eqb, length, get_or, sym, ap, ◌∙◌}
 use Rattle.rules.specs.declared.Setting.{Setting}
 use Rattle.rules.specs.Answers.{Refusal, none, none_in_flight, refusal_number, refuse}
 use Rattle.rules.specs.Setting.{setting_of}

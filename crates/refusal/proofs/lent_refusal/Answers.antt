@@ -1,6 +1,5 @@
 -- `lent_refusal` gives the refusals of set-up, then 7.
-use Rattle.std.proofs.Common.{◌≡◌, Bool, true, false, not, length, sym, refl, ap, ◌∙◌, rules}
-use borrow.Author.Tests.{not-true, not-false}
+use Rattle.std.proofs.Common.{◌≡◌, true, false, not, length, sym, refl, ap, ◌∙◌}
 use Rattle.head.specs.declared.Head.{Head}
 use Rattle.rules.specs.declared.Setting.{Setting}
 use Rattle.rules.specs.Answers.{Refusal, none, bad_memory, refusal_number, refuse}

@@ -5,14 +5,13 @@ use mathlib.Core.Bool.{true, false}
 use Prim.Native.Nat.{ℕ, ◌≤◌, ◌*◌, ◌-◌}
 use native.Mathlib.Omega.{arith}
 use lib.Dec.{ltb}
-use borrow.Author.Tests.{lt-ltb, le-ltb, ltb-false, not-true, not-false}
+use borrow.Author.Tests.{lt-ltb, le-ltb, ltb-false}
 use Rattle.rules.specs.declared.Setting.{Setting}
 use Rattle.rules.specs.declared.Limits.{Limits}
 use Rattle.rules.specs.Answers.{Refusal, none, long_history, above_limit, above_profile, refuse}
 use Rattle.rules.specs.Setting.{history_length, row_bound, profile_of, exceeds, setting_refusal}
 use Rattle.rules.specs.Tested.{Ranges}
 use Rattle.setting.proofs.Ranges.{in_range, in_ranges}
-use borrow.Author.Rules.{rules}
 use Rattle.setting.proofs.refusal.Goals as goal
 
 -- 16, for the profile that the mark names

@@ -12,7 +12,6 @@ use Rattle.rules.specs.Calls.{finished, Outcome, outcome, call_refusal, done_ref
 use Rattle.rules.proofs.Accept.{taken, done_taken, number_none, not_zero}
 use Rattle.state.proofs.filterless.Requests.{narrow_widest, bounds}
 use Rattle.sound.proofs.told.Tells.{place_only, done_first, done_last, over_refused_lem, over_taken, done_parts, done_sound, flying_ten}
-use borrow.Author.Rules.{rules}
 use Rattle.sound.proofs.done.Goals as goal
 
 pub returns-then-code-ne0 : goal.returns-then-code-ne0

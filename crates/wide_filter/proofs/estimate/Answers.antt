@@ -1,6 +1,5 @@
 -- `wide_filter::estimate` meets its contract: the least of the two leasts is the rules' estimate.
 use Rattle.filter.proofs.Parts.{estimate_part}
-use borrow.Author.Rules.{rules}
 use Rattle.wide_filter.proofs.estimate.Goals as goal
 
 pub returns : goal.returns

@@ -11,7 +11,6 @@ use mir.Val.{Fits, to_z, of_z}
 use mir.ValLaws.{to_z-of_z}
 use Rattle.check_log.specs.Reads.{after_read}
 use Rattle.check_log.proofs.input.Given.{failed, not_below, not_negative, none_left, part, all}
-use borrow.Author.Rules.{rules}
 use Rattle.check_log.proofs.input.after_read.Goals as goal
 
 pub returns-then-got-lt0 : goal.returns-then-got-lt0

@@ -1,13 +1,10 @@
 -- `fill` makes reads until one is the last.
-use Prim.Native.Nat.{◌-◌, ◌<◌}
-use mathlib.Core.Path.{◌≡◌, refl}
+use Prim.Native.Nat.{◌-◌}
+use mathlib.Core.Path.{refl}
 use mathlib.Core.List.{[]}
 use native.Mathlib.Omega.{arith}
-use lib.ListN.{length}
-use Rattle.check_log.specs.declared.input.Read.TheVariants.{More}
 use Rattle.check_log.specs.Reads.{after_reads, reads_from}
-use Rattle.check_log.proofs.input.Given.{Reads, grown, reads_more}
-use borrow.Author.Rules.{rules}
+use Rattle.check_log.proofs.input.Given.{grown, reads_more}
 use Rattle.check_log.proofs.input.fill.Goals as goal
 
 pub loop-bytes-init : goal.loop-bytes-init

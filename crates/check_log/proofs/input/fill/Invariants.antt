@@ -1,12 +1,9 @@
 -- `fill` makes reads until one is the last.
 use Prim.Native.Nat.{◌-◌, ◌<◌}
-use mathlib.Core.Path.{◌≡◌, refl}
-use mathlib.Core.List.{[]}
-use native.Mathlib.Omega.{arith}
+use mathlib.Core.Path.{◌≡◌}
 use lib.ListN.{length}
 use Rattle.check_log.specs.declared.input.Read.TheVariants.{More}
-use Rattle.check_log.specs.Reads.{after_reads, reads_from}
-use Rattle.check_log.proofs.input.Given.{Reads, grown, reads_more}
+use Rattle.check_log.proofs.input.Given.{Reads}
 use Rattle.check_log.proofs.input.fill.Given as goal
 
 abbrev pub invariant-loop-bytes : goal.invariant-loop-bytes

@@ -1,5 +1,4 @@
 -- `look` turns the filters and reads both estimates.
-use borrow.Author.Rules.{rules}
 use Rattle.filter.proofs.look.look.Goals as goal
 
 pub returns : goal.returns

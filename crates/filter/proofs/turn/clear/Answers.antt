@@ -1,7 +1,6 @@
 -- `turn::clear` meets its contract: the run from cell 0 on is the used cells.
 use mathlib.Core.Path.{◌∙◌}
 use Rattle.filter.proofs.turn.Clearing.{run_used}
-use borrow.Author.Rules.{rules}
 use Rattle.filter.proofs.turn.clear.Goals as goal
 
 pub returns : goal.returns

@@ -1,8 +1,7 @@
 -- `turn::clear_filter` meets its contract. The loop has cleared the filter in the first b banks.
-use Prim.Native.Nat.{◌-◌}
 use native.Mathlib.Omega.{arith}
-use Rattle.rules.proofs.Clearing.{Cleared, cleared_all}
-use Rattle.filter.proofs.turn.Clearing.{banks_of, filter_none, filter_more}
+use Rattle.rules.proofs.Clearing.{cleared_all}
+use Rattle.filter.proofs.turn.Clearing.{filter_none, filter_more}
 use borrow.Author.Rules.{rules}
 use Rattle.filter.proofs.turn.clear_filter.Goals as goal
 

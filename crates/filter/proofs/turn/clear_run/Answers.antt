@@ -1,8 +1,6 @@
 -- `turn::clear_run` meets its contract. The loop has cleared the run of the i cells from start on.
-use Prim.Native.Nat.{◌-◌}
 use native.Mathlib.Omega.{arith}
-use Rattle.rules.proofs.Clearing.{Cleared, cleared_all}
-use Rattle.filter.specs.turn.Changes.{in_run}
+use Rattle.rules.proofs.Clearing.{cleared_all}
 use Rattle.filter.proofs.turn.Clearing.{run_none, run_more}
 use borrow.Author.Rules.{rules}
 use Rattle.filter.proofs.turn.clear_run.Goals as goal

@@ -2,7 +2,6 @@
 use mathlib.Core.Path.{ap₂}
 use lib.Bits.{bit_and}
 use Rattle.hash.specs.Lanes.{chosen}
-use borrow.Author.Rules.{rules}
 use Rattle.hash.proofs.lanes.chosen.Goals as goal
 
 pub returns : goal.returns

@@ -1,7 +1,6 @@
 -- `lanes::mask` meets its contract: the four bits, spread, fill their lanes.
 use native.Mathlib.Omega.{arith}
 use Rattle.hash.proofs.lanes.Masks.{filled}
-use borrow.Author.Rules.{rules}
 use Rattle.hash.proofs.lanes.mask.Goals as goal
 
 pub overflow_mul-result : goal.overflow_mul-result

@@ -1,5 +1,4 @@
 -- `lanes::spread` meets its contract.
-use borrow.Author.Rules.{rules}
 use Rattle.hash.proofs.lanes.Masks.{spread_is}
 use Rattle.hash.proofs.lanes.spread.Goals as goal
 

@@ -3,7 +3,6 @@ use mathlib.Core.Path.{◌≡◌}
 use native.Mathlib.Omega.{arith}
 use lib.ListN.{length}
 use Rattle.hash.proofs.seeds.Laws.{seeds_64, hash_is}
-use borrow.Author.Rules.{rules}
 use Rattle.hash.proofs.seeds.hash.Goals as goal
 
 pub chosen-a-requires : goal.chosen-a-requires

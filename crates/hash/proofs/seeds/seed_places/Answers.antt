@@ -1,6 +1,5 @@
 -- `seeds::seed_places` meets its contract: the four hashes are the definition's places.
 use Rattle.hash_rules.proofs.Places.{four_places}
-use borrow.Author.Rules.{rules}
 use Rattle.hash.proofs.seeds.seed_places.Goals as goal
 
 pub returns : goal.returns

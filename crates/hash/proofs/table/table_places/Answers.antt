@@ -1,6 +1,5 @@
 -- `table::table_places` meets its contract: the lanes of the two words together are the places.
 use Rattle.hash.proofs.table.Table.{table_places}
-use borrow.Author.Rules.{rules}
 use Rattle.hash.proofs.table.table_places.Goals as goal
 
 pub returns : goal.returns

@@ -1,7 +1,6 @@
 -- `judge_done` calls the model; the rules answer 0 and wait for nothing.
 use Rattle.rules.specs.State.{State, state}
 use Rattle.judge.proofs.judged.Entries.{done_refused, done_settled}
-use borrow.Author.Rules.{rules}
 use Rattle.judge.proofs.entry.judge_done.Goals as goal
 
 pub returns-then-code-ne0 : goal.returns-then-code-ne0

@@ -7,7 +7,6 @@ use Rattle.lent.proofs.request.Settled.{moved_alone}
 use Rattle.state.proofs.filterless.Requests.{bounds}
 use Rattle.lent.proofs.request.Counters.{room}
 use Rattle.lent.proofs.done.Leaves.{done_refused, done_ok, done_done}
-use borrow.Author.Rules.{rules}
 use Rattle.lent.proofs.done.done.Goals as goal
 
 pub done_refusal-code-requires : goal.done_refusal-code-requires

@@ -8,7 +8,6 @@ use Rattle.lent.proofs.request.Settled.{moved_alone}
 use Rattle.state.proofs.filterless.Requests.{bounds}
 use Rattle.lent.proofs.request.Counters.{blank, room}
 use Rattle.lent.proofs.index.Leaves.{index_refused, index_ok, index_done}
-use borrow.Author.Rules.{rules}
 use Rattle.lent.proofs.index.index.Goals as goal
 
 pub call_refusal-refusal-requires : goal.call_refusal-refusal-requires

@@ -1,6 +1,5 @@
 -- `bank_word` reads the bank's cell of the head.
 use Rattle.lent.proofs.request.Settled.{bank_word}
-use borrow.Author.Rules.{rules}
 use Rattle.lent.proofs.request.bank_word.Goals as goal
 
 pub returns : goal.returns

@@ -1,6 +1,5 @@
 -- `tested` takes the number of the tests, and the table where no seed differs from the house seeds.
 use borrow.Author.Tests.{eqb-true}
-use borrow.Author.Rules.{rules}
 use Rattle.lent.proofs.request.tested.Goals as goal
 
 pub returns : goal.returns

@@ -6,7 +6,6 @@ use Rattle.rules.specs.Tested.{SetUp}
 use Rattle.state.proofs.filterless.Requests.{bounds}
 use Rattle.lent.proofs.request.Counters.{blank}
 use Rattle.lent.proofs.setup.Leaves.{setup_refused, setup_ok, setup_room, setup_done}
-use borrow.Author.Rules.{rules}
 use Rattle.lent.proofs.setup.setup.Goals as goal
 
 pub lent_refusal-code-requires : goal.lent_refusal-code-requires

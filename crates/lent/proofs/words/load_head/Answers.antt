@@ -1,6 +1,5 @@
 use mathlib.Core.Path.{refl}
 use Rattle.rules.specs.State.{head_of}
-use borrow.Author.Rules.{rules}
 use Rattle.lent.proofs.words.load_head.Goals as goal
 
 pub returns : goal.returns

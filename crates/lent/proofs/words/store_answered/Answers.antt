@@ -1,6 +1,5 @@
 -- `store_answered` stores what has changed.
 use mathlib.Core.Path.{◌∙◌}
-use borrow.Author.Rules.{rules}
 use Rattle.lent.proofs.words.store_answered.Goals as goal
 
 pub store_clock-requires : goal.store_clock-requires

@@ -2,7 +2,6 @@
 use mathlib.Core.Path.{sym, ap}
 use Rattle.head.specs.Head.{moved_head}
 use Rattle.rules.specs.State.{head_of, head_words}
-use borrow.Author.Rules.{rules}
 use Rattle.lent.proofs.words.store_clock.Goals as goal
 
 pub returns : goal.returns

@@ -1,7 +1,6 @@
 -- `read::word16`: two bytes, the lower one first.
 use native.Mathlib.Omega.{arith}
 use Rattle.log_format.proofs.Numbers.{little_two}
-use borrow.Author.Rules.{rules}
 use Rattle.log_bytes.proofs.read.word16.Goals as goal
 
 pub returns : goal.returns

@@ -1,7 +1,6 @@
 -- `read::word32`: two numbers of 16 bits, the lower one first.
 use native.Mathlib.Omega.{arith}
 use Rattle.log_format.proofs.Numbers.{little_four}
-use borrow.Author.Rules.{rules}
 use Rattle.log_bytes.proofs.read.word32.Goals as goal
 
 pub returns : goal.returns

@@ -1,6 +1,5 @@
 -- `read::word64`: two numbers of 32 bits, the lower one first.
 use Rattle.log_format.proofs.Numbers.{little_eight}
-use borrow.Author.Rules.{rules}
 use Rattle.log_bytes.proofs.read.word64.Goals as goal
 
 pub returns : goal.returns

@@ -1,11 +1,9 @@
 -- `store::put`. The loop's invariant: storing the bytes that are left, from the place reached on, gives the block that is promised.
-use Prim.Native.Nat.{◌+◌, ◌-◌, ◌≤◌}
+use Prim.Native.Nat.{◌+◌, ◌-◌}
 use mathlib.Core.Path.{◌≡◌, sym, ◌∙◌}
 use native.Mathlib.Omega.{arith}
-use lib.Seq.{sets}
 use Rattle.log_format.specs.Bytes.{bytes_of}
 use Rattle.log_format.proofs.Numbers.{put_step}
-use borrow.Author.Rules.{rules}
 use Rattle.log_bytes.proofs.store.put.Goals as goal
 
 pub loop-i-init : goal.loop-i-init

@@ -1,10 +1,8 @@
 -- `store::put`. The loop's invariant: storing the bytes that are left, from the place reached on, gives the block that is promised.
 use Prim.Native.Nat.{◌+◌, ◌-◌, ◌≤◌}
-use mathlib.Core.Path.{◌≡◌, sym, ◌∙◌}
-use native.Mathlib.Omega.{arith}
+use mathlib.Core.Path.{◌≡◌}
 use lib.Seq.{sets}
 use Rattle.log_format.specs.Bytes.{bytes_of}
-use Rattle.log_format.proofs.Numbers.{put_step}
 use Rattle.log_bytes.proofs.store.put.Given as goal
 
 abbrev pub invariant-loop-i : goal.invariant-loop-i

@@ -1,10 +1,9 @@
 -- `add_up`. The loop's invariant: both sums are those of the bytes passed, and small enough for 32 bits.
-use Prim.Native.Nat.{◌-◌, ◌*◌, ◌≤◌}
+use Prim.Native.Nat.{◌-◌}
 use mathlib.Core.Path.{◌≡◌, refl}
 use native.Mathlib.Omega.{arith}
 use Rattle.log_format.specs.Blocks.{sum_to, weighted_to}
 use Rattle.log_format.proofs.Numbers.{sum_more, weighted_more}
-use borrow.Author.Rules.{rules}
 use Rattle.log_bytes.proofs.sums.add_up.Goals as goal
 
 pub loop-i-init : goal.loop-i-init

@@ -1,6 +1,5 @@
 -- `is_checked`: the remainders of the two sums against the numbers at the end of the block.
 use Rattle.log_format.specs.Blocks.{checked}
-use borrow.Author.Rules.{rules}
 use Rattle.log_bytes.proofs.sums.is_checked.Goals as goal
 
 pub returns : goal.returns

@@ -1,13 +1,9 @@
 -- `tests::are_zero`. The loop's invariant: the sum is zero exactly where the bytes passed are.
-use Prim.Native.Nat.{◌+◌, ◌-◌, ◌*◌, ◌≤◌}
+use Prim.Native.Nat.{◌-◌}
 use mathlib.Core.Path.{◌≡◌, refl, ◌∙◌}
 use native.Mathlib.Omega.{arith}
-use lib.Dec.{eqb}
-use lib.ListN.{get_or}
-use Rattle.rules.specs.Cells.{every}
 use Rattle.log_format.specs.Bytes.{zeros}
 use Rattle.log_bytes.proofs.Zeros.{zeros_more}
-use borrow.Author.Rules.{rules}
 use Rattle.log_bytes.proofs.tests.are_zero.Goals as goal
 
 pub loop-i-init : goal.loop-i-init

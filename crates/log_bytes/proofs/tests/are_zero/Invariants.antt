@@ -1,12 +1,9 @@
 -- `tests::are_zero`. The loop's invariant: the sum is zero exactly where the bytes passed are.
 use Prim.Native.Nat.{◌+◌, ◌-◌, ◌*◌, ◌≤◌}
-use mathlib.Core.Path.{◌≡◌, refl, ◌∙◌}
-use native.Mathlib.Omega.{arith}
+use mathlib.Core.Path.{◌≡◌}
 use lib.Dec.{eqb}
 use lib.ListN.{get_or}
 use Rattle.rules.specs.Cells.{every}
-use Rattle.log_format.specs.Bytes.{zeros}
-use Rattle.log_bytes.proofs.Zeros.{zeros_more}
 use Rattle.log_bytes.proofs.tests.are_zero.Given as goal
 
 abbrev pub invariant-loop-i : goal.invariant-loop-i

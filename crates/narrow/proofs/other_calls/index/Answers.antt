@@ -1,7 +1,6 @@
 -- `index` turns the filters as the reading says.
 use mathlib.Core.Path.{refl}
 use Rattle.state.proofs.filterless.Requests.{narrow_widest}
-use borrow.Author.Rules.{rules}
 use Rattle.narrow.proofs.other_calls.index.Goals as goal
 
 pub index-reading-requires : goal.index-reading-requires

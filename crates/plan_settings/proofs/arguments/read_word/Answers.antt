@@ -1,11 +1,9 @@
 -- `read_word`. The loop's invariant: what is left of the word, read after the number so far, gives the number of the whole word.
-use mathlib.Core.List.{List}
-use Prim.Native.Nat.{ℕ, ◌-◌, ◌≤◌}
-use mathlib.Core.Path.{◌≡◌, sym, ◌∙◌}
+use Prim.Native.Nat.{◌-◌}
+use mathlib.Core.Path.{sym, ◌∙◌}
 use native.Mathlib.Omega.{arith}
-use lib.ListN.{length}
 use borrow.Author.Tests.{eq-eqb}
-use Rattle.plan_settings.specs.Decimal.{digits_from, number_of}
+use Rattle.plan_settings.specs.Decimal.{number_of}
 use Rattle.plan_settings.proofs.arguments.Reading.{no_digit_low, no_digit_high, too_large, one_more, all_read, at_start}
 use borrow.Author.Rules.{rules}
 use Rattle.plan_settings.proofs.arguments.read_word.Goals as goal

@@ -1,7 +1,6 @@
 -- `print_line`: the least delay of an answer is accepted, so its costs can be asked for.
 use mathlib.Core.Path.{sym, ◌∙◌}
 use Rattle.plan.proofs.Lasting.{least_accepted}
-use borrow.Author.Rules.{rules}
 use Rattle.plan_settings.proofs.table.print_line.Goals as goal
 
 pub costs-c-requires : goal.costs-c-requires

@@ -1,7 +1,6 @@
 -- `distances` meets its contract. The invariant: while the top bit of the or is clear, the words passed hold no later tick.
-use Rattle.std.proofs.Common.{◌≡◌, ◌+◌, ◌-◌, ◌%◌, ◌^◌, ◌<◌, ◌≤◌, true, get_or, arith, rules}
+use Rattle.std.proofs.Common.{◌≡◌, ◌+◌, ◌-◌, ◌%◌, ◌^◌, ◌<◌, ◌≤◌, true, get_or}
 use Rattle.refusal.specs.Words.{words_past}
-use Rattle.refusal.proofs.head_ticks.Ticks.{past_none, quick_more}
 use Rattle.refusal.proofs.head_ticks.distances.Given as goal
 
 abbrev pub invariant-loop-k : goal.invariant-loop-k

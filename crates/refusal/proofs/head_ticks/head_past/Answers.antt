@@ -1,6 +1,5 @@
 -- `head_past` accepts by the quick pass, or tests banks and rank one by one.
-use Rattle.std.proofs.Common.{◌&&◌, sym, ap, ◌∙◌, ap₂, arith, rules}
-use borrow.Author.Tests.{not-true, not-false}
+use Rattle.std.proofs.Common.{◌&&◌, sym, ap, ◌∙◌, ap₂, arith}
 use Rattle.refusal.specs.Words.{words_past}
 use Rattle.refusal.proofs.head_ticks.Ticks.{past_part}
 use Rattle.refusal.proofs.head_ticks.head_past.Goals as goal

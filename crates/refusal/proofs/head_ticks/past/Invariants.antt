@@ -1,8 +1,6 @@
 -- `past` tests the words one by one. The invariant: those passed hold no later tick.
-use Rattle.std.proofs.Common.{◌≡◌, ◌-◌, ◌≤◌, true, get_or, sym, refl, ◌∙◌, arith, rules}
-use borrow.Author.Tests.{not-true, not-false}
+use Rattle.std.proofs.Common.{◌≡◌, ◌-◌, ◌≤◌, true, get_or}
 use Rattle.refusal.specs.Words.{words_past}
-use Rattle.refusal.proofs.head_ticks.Ticks.{past_none, past_more, past_stops}
 use Rattle.refusal.proofs.head_ticks.past.Given as goal
 
 abbrev pub invariant-loop-k : goal.invariant-loop-k

@@ -1,5 +1,5 @@
 -- `setup_refusal` gives the setting's refusal first, then 6.
-use Rattle.std.proofs.Common.{◌≡◌, sym, ap, ◌∙◌, rules}
+use Rattle.std.proofs.Common.{◌≡◌, sym, ap, ◌∙◌}
 use Rattle.rules.specs.Answers.{none, short_buffer, refusal_number, refuse}
 use Rattle.rules.specs.Setting.{setting_refusal}
 use Rattle.rules.specs.Tested.{Accepted}

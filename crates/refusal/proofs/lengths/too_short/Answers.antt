@@ -1,5 +1,5 @@
 -- `too_short` compares the four lengths with the used parts.
-use Rattle.std.proofs.Common.{arith, rules, le-ltb, lt-ltb}
+use Rattle.std.proofs.Common.{arith, le-ltb, lt-ltb}
 use Rattle.refusal.specs.Lengths.{short_test}
 use Rattle.refusal.proofs.lengths.Order.{short_last}
 use Rattle.rules.proofs.Accept.{cells_small}

@@ -1,6 +1,5 @@
 -- `memory_ok` makes the tests of refusal 7 in their order.
-use Rattle.std.proofs.Common.{◌≡◌, true, false, ltb, get_or, sym, ◌∙◌, rules, le-ltb, lt-ltb}
-use borrow.Author.Tests.{not-true, not-false}
+use Rattle.std.proofs.Common.{◌≡◌, true, false, ltb, get_or, sym, ◌∙◌, le-ltb, lt-ltb}
 use Rattle.rules.specs.Setting.{history_length}
 use Rattle.refusal.proofs.memory.Heads.{memory_words}
 use Rattle.refusal.proofs.memory.memory_ok.Goals as goal

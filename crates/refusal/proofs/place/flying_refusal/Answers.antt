@@ -1,5 +1,5 @@
 -- `flying_refusal` looks at what is in flight.
-use Rattle.std.proofs.Common.{◌≡◌, ◌+◌, ◌≤◌, eqb, length, get_or, sym, ap, ◌∙◌, arith, rules, eq-eqb, ne_eqb}
+use Rattle.std.proofs.Common.{◌≡◌, ◌+◌, ◌≤◌, eqb, length, get_or, sym, ap, ◌∙◌, arith, eq-eqb, ne_eqb}
 use Rattle.rules.specs.Answers.{none, none_in_flight, refusal_number, refuse}
 use Rattle.rules.specs.State.{thread_cell}
 use Rattle.rules.proofs.Accept.{cells_small}

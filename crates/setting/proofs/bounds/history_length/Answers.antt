@@ -1,6 +1,5 @@
 -- `bounds::history_length`: by what `history_places` ensures.
 use Rattle.rules.specs.Setting.{history_length}
-use borrow.Author.Rules.{rules}
 use Rattle.setting.proofs.bounds.history_length.Goals as goal
 
 pub returns : goal.returns

@@ -1,7 +1,6 @@
 -- `fields::and_within`: by what its two callees ensure.
 use mathlib.Core.Path.{◌∙◌, ap}
 use mathlib.Core.Bool.{◌&&◌}
-use borrow.Author.Rules.{rules}
 use Rattle.setting.proofs.fields.and_within.Goals as goal
 
 pub returns : goal.returns

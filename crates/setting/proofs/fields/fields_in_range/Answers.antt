@@ -1,6 +1,5 @@
 -- `fields::fields_in_range`: the chain of tests is the definition's, test by test.
 use Rattle.rules.specs.Setting.{fields_in_range}
-use borrow.Author.Rules.{rules}
 use Rattle.setting.proofs.fields.fields_in_range.Goals as goal
 
 pub returns : goal.returns

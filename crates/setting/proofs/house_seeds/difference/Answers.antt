@@ -1,10 +1,9 @@
 -- `house_seeds::difference` meets its contract: seed by seed, what the bits say of the seeds passed.
-use Prim.Native.Nat.{◌-◌, ◌≤◌}
+use Prim.Native.Nat.{◌-◌}
 use mathlib.Core.Path.{◌≡◌}
 use native.Mathlib.Omega.{arith}
 use Rattle.rules.specs.Samples.{house}
-use Rattle.setting.proofs.house_seeds.Same.{Passed, passed_none, passed_more, passed_all, other_length}
-use borrow.Author.Rules.{rules}
+use Rattle.setting.proofs.house_seeds.Same.{passed_none, passed_more, passed_all, other_length}
 use Rattle.setting.proofs.house_seeds.difference.Goals as goal
 
 pub returns-then-seeds-ne64 : goal.returns-then-seeds-ne64

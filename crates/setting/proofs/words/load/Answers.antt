@@ -1,7 +1,6 @@
 -- `words::load`: the ten words are the fields, in order.
 use mathlib.Core.Path.{refl}
 use Rattle.rules.specs.Setting.{setting_of}
-use borrow.Author.Rules.{rules}
 use Rattle.setting.proofs.words.load.Goals as goal
 
 pub returns : goal.returns

@@ -10,7 +10,6 @@ use Rattle.rules.specs.Policy.{limits01, narrow}
 use Rattle.rules.specs.Calls.{Outcome, call_refusal, requested, step}
 use Rattle.rules.proofs.Accept.{number_none, taken}
 use Rattle.sound.proofs.told.Tells.{place_only, told_refused, told_taken}
-use borrow.Author.Rules.{rules}
 use Rattle.sound.proofs.requested.request.Goals as goal
 
 pub returns-then-code-ne0 : goal.returns-then-code-ne0

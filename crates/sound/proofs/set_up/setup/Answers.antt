@@ -1,7 +1,6 @@
 -- `setup` is refused as the rules say, or clears the used parts.
 use mathlib.Core.Path.{◌≡◌, sym, ap, ◌∙◌}
 use native.Mathlib.Omega.{arith}
-use lib.Dec.{eqb}
 use lib.ListN.{length}
 use borrow.Author.Tests.{eqb-true}
 use Rattle.rules.specs.Answers.{none, refusal_number}
@@ -10,12 +9,10 @@ use Rattle.rules.specs.Policy.{limits01}
 use Rattle.rules.specs.Tested.{SetUp}
 use Rattle.rules.specs.Calls.{setup_refusal}
 use Rattle.rules.proofs.Accept.{set_up_lem, number_none}
-use Rattle.hash_rules.specs.Words.{TableFor}
 use Rattle.refusal.specs.Tests.{setup_test}
 use Rattle.refusal.proofs.Refusals.{setup_test_lem}
 use Rattle.state.proofs.filterless.Requests.{narrow_widest, bounds}
 use Rattle.sound.proofs.told.Tells.{begun_refused, begun_taken}
-use borrow.Author.Rules.{rules}
 use Rattle.sound.proofs.set_up.setup.Goals as goal
 
 pub setup_refusal-code-requires : goal.setup_refusal-code-requires

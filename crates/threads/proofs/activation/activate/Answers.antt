@@ -1,10 +1,8 @@
 -- `activation::activate`: the three cells are the thread's in that bank, and all are read before a raised one is stored.
 use native.Mathlib.Omega.{arith}
 use lib.ListN.{length-set}
-use borrow.Author.Tests.{not-true, not-false}
 use Rattle.threads.proofs.counters.Index.{held_at}
 use Rattle.threads.proofs.activation.Activated.{activated_plain, activated_black}
-use borrow.Author.Rules.{rules}
 use Rattle.threads.proofs.activation.activate.Goals as goal
 
 pub overflow_add-flying-2 : goal.overflow_add-flying-2

@@ -1,7 +1,6 @@
 -- `counters::finish`: the cell is the thread's in flight in that bank.
 use native.Mathlib.Omega.{arith}
 use Rattle.threads.proofs.counters.Index.{held_at, finished_is}
-use borrow.Author.Rules.{rules}
 use Rattle.threads.proofs.counters.finish.Goals as goal
 
 pub overflow_sub-flying : goal.overflow_sub-flying

@@ -2,7 +2,6 @@
 use native.Mathlib.Omega.{arith}
 use native.Mathlib.Nat.{mod-lt, div-le_self}
 use Rattle.rules.proofs.Rounding.{rounds_short, rounds_past, rounds_half}
-use borrow.Author.Rules.{rules}
 use Rattle.threads.proofs.quota.nearest.Goals as goal
 
 pub overflow_mul-twice : goal.overflow_mul-twice

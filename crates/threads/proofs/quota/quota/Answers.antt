@@ -1,6 +1,5 @@
 -- `quota::quota`: the full quota while the counter is 0, and else the formula.
 use mathlib.Core.Path.{sym, ap, ◌∙◌}
-use borrow.Author.Rules.{rules}
 use native.Mathlib.Omega.{arith}
 use Rattle.rules.specs.Quota.{quota_even}
 use Rattle.rules.proofs.Regular.{quota_full}

@@ -1,9 +1,8 @@
 -- `total`: bank by bank the sum of the thread's cells, each a bank's cells after the one before.
 use mathlib.Core.Path.{◌≡◌, refl, ap, ◌∙◌}
-use Prim.Native.Nat.{◌+◌, ◌-◌, ◌*◌, ◌≤◌}
+use Prim.Native.Nat.{◌+◌, ◌*◌}
 use native.Mathlib.Omega.{arith}
 use Rattle.threads.proofs.total.Laws.{strided, within, next_cell, next_sum, strided_total}
-use borrow.Author.Rules.{rules}
 use Rattle.threads.proofs.total.total.Goals as goal
 
 pub loop-bank-init : goal.loop-bank-init
@@ -26,8 +25,7 @@ overflow_add-at-in-loop-bank c = omega (arith, c.loop-bank.invariant.2, c.requir
 pub loop-bank-preserved : goal.loop-bank-preserved
 loop-bank-preserved c =
     let a = c.args in
-    let first = a.thread * 3 + 2 in
-    (
+    let first = a.thread * 3 + 2 in (
       omega arith,
       next_cell c.loop-bank.at c.loop-bank.bank (a.s.threads * 3) first c.loop-bank.invariant.1,
       omega arith,

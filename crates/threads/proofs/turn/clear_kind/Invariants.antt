@@ -1,9 +1,7 @@
 -- `turn::clear_kind`. The loop's invariant: the cells of the kind in the groups passed are 0 and the others are as they were.
 use Prim.Native.Nat.{◌-◌}
-use native.Mathlib.Omega.{arith}
-use Rattle.rules.proofs.Clearing.{Cleared, cleared_all}
+use Rattle.rules.proofs.Clearing.{Cleared}
 use Rattle.threads.specs.Kinds.{kind_below}
-use Rattle.threads.proofs.turn.Turns.{kind_none, kind_more}
 use Rattle.threads.proofs.turn.clear_kind.Given as goal
 
 abbrev pub invariant-loop-i : goal.invariant-loop-i

@@ -5,7 +5,6 @@ use native.Mathlib.Omega.{arith}
 use Rattle.rules.specs.Cells.{clear_cells}
 use Rattle.threads.specs.Kinds.{kind_below}
 use Rattle.threads.proofs.turn.Turns.{turned_none, turned_one, turned_both}
-use borrow.Author.Rules.{rules}
 use Rattle.threads.proofs.turn.turn.Goals as goal
 
 pub returns-then-to-from : goal.returns-then-to-from

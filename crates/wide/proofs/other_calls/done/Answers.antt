@@ -1,7 +1,6 @@
 -- `done` turns the filters as the done says.
 use mathlib.Core.Path.{refl}
 use Rattle.state.proofs.filterless.Requests.{wide_widest}
-use borrow.Author.Rules.{rules}
 use Rattle.wide.proofs.other_calls.done.Goals as goal
 
 pub done-clocked-requires : goal.done-clocked-requires

@@ -1,7 +1,6 @@
 -- `setup` clears the filters as what is left of set-up says.
 use mathlib.Core.Path.{refl}
 use Rattle.state.proofs.filterless.Requests.{wide_widest}
-use borrow.Author.Rules.{rules}
 use Rattle.wide.proofs.other_calls.setup.Goals as goal
 
 pub setup-cleared-requires : goal.setup-cleared-requires

@@ -6,7 +6,6 @@ use Rattle.rules.specs.Setting.{setting_of}
 use Rattle.rules.specs.State.{State, state}
 use Rattle.rules.specs.Policy.{limits02}
 use Rattle.lent.proofs.request.Settled.{Asks, request_refused, in_head, request_free, request_held, request_left}
-use borrow.Author.Rules.{rules}
 use Rattle.wide.proofs.request.request.Goals as goal
 
 pub tested-t-requires : goal.tested-t-requires
@@ -67,8 +66,7 @@ request-d-requires c =
       thread = a.thread;
       row = a.row;
       out = a.out.now;
-    } in
-    (
+    } in (
       request_free asks _ _ c.requires c.tested-t.ensures.0 c.if-t-ne0.false _ _ loaded c.load_head-h.ensures,
       c.bank_word.ensures ∙ ap (λ x. get_or x.bank c.args.bank 0) (sym c.load_head-h.ensures),
       c.tested-t.ensures.1,

@@ -11,9 +11,7 @@ use Rattle.rules.specs.Policy.{limits02}
 use Rattle.rules.specs.Decision.{opens, answer_of}
 use Rattle.rules.proofs.Accept.{taken}
 use Rattle.rules.proofs.Tests.{is_true}
-use Rattle.state.proofs.filterless.Laws.{not_not}
 use Rattle.state.proofs.filterless.Requests.{wide_widest, bounds, Asked, Read, ready_at, epoch_at, few_at, waits_at, opens_at}
-use borrow.Author.Rules.{rules}
 use Rattle.wide.proofs.tested.request.Goals as goal
 
 pub turn-x-requires : goal.turn-x-requires

@@ -1,8 +1,7 @@
 -- `turn::clear_filter` meets its contract. The loop has cleared the filter in the first b banks.
 use Prim.Native.Nat.{◌-◌}
-use native.Mathlib.Omega.{arith}
-use Rattle.rules.proofs.Clearing.{Cleared, cleared_all}
-use Rattle.filter.proofs.turn.Clearing.{banks_of, filter_none, filter_more}
+use Rattle.rules.proofs.Clearing.{Cleared}
+use Rattle.filter.proofs.turn.Clearing.{banks_of}
 use Rattle.wide_filter.proofs.turn.clear_filter.Given as goal
 
 abbrev pub invariant-loop-b : goal.invariant-loop-b

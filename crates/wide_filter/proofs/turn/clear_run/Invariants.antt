@@ -1,9 +1,7 @@
 -- `turn::clear_run` meets its contract. The loop has cleared the run of the i cells from start on.
 use Prim.Native.Nat.{◌-◌}
-use native.Mathlib.Omega.{arith}
-use Rattle.rules.proofs.Clearing.{Cleared, cleared_all}
+use Rattle.rules.proofs.Clearing.{Cleared}
 use Rattle.filter.specs.turn.Changes.{in_run}
-use Rattle.filter.proofs.turn.Clearing.{run_none, run_more}
 use Rattle.wide_filter.proofs.turn.clear_run.Given as goal
 
 abbrev pub invariant-loop-i : goal.invariant-loop-i

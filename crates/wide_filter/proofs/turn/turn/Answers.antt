@@ -4,7 +4,6 @@ use mathlib.Core.Path.{◌∙◌}
 use native.Mathlib.Omega.{arith}
 use Rattle.rules.proofs.Clock.{counters_none}
 use Rattle.filter.proofs.turn.Clearing.{turned_one, turned_both}
-use borrow.Author.Rules.{rules}
 use Rattle.wide_filter.proofs.turn.turn.Goals as goal
 
 pub returns-then-to-from : goal.returns-then-to-from
