@@ -1,6 +1,6 @@
 -- Bytes that were put together of whole blocks, and a rest.
 use Prim.Native.Nat.{ℕ, suc, ◌+◌, ◌*◌, ◌/◌, ◌%◌, ◌<◌}
-use mathlib.Core.Path.{◌≡◌, refl, sym, ap₂, ◌∙◌}
+use mathlib.Core.Path.{◌≡◌, refl, ap₂, ◌∙◌, subst}
 use mathlib.Core.List.{List, [], ◌∷◌, ◌++◌, append_assoc}
 use native.Mathlib.Omega.{arith}
 use lib.Dec.{eqb}
@@ -36,7 +36,7 @@ blocks_behind b front (s ∷ ss) t e w =
     let f : length (front ++ s) ≡ 512 * suc b = length-append front s ∙ omega arith in
     ap₂ (λ (x : List ℕ) (xs : List (List ℕ)). x ∷ xs)
     (rw (drop_at front (s ++ joined ss t) (512 * b) e) (take_at s (joined ss t) 512 h))
-    (rw (sym (append_assoc front s (joined ss t))) (blocks_behind (suc b) (front ++ s) ss t f w.1))
+    (subst (λ (x : List ℕ). blocks_from x (suc b) (length ss) ≡ ss) (append_assoc front s (joined ss t)) (blocks_behind (suc b) (front ++ s) ss t f w.1))
 
 pub whole_more : (ss : List (List ℕ)) (s : List ℕ) → Whole ss → length s ≡ 512 → Whole (ss ++ (s ∷ []))
 whole_more [] s w e = (e, tt)

@@ -15,8 +15,7 @@ ghost use Rattle.check_log.specs.Fills.{judge_filled};
 
 use crate::input::Filled;
 use judge::reading::{Next, Reading};
-use std::io;
-use std::io::{Stdin, Stdout};
+use std::io::{self, Stdin, Stdout};
 use tally::Report;
 
 // The step from how the block was filled to a report, or to the next block.
@@ -86,11 +85,12 @@ fn run(mut input: Stdin) -> Report
     }
 }
 
-// Writes the text of the report of some log, from one buffer. It is the only function here that writes.
+// Writes the text of the report of some log, from one buffer. It is the only function here that writes, and a write that fails ends the program with its
+// error.
 fn print(out: Stdout, text: &[u8]) -> io::Result<()>
     requires { (bytes : List ℕ) × (text.now ≡ text_of (report_of (verdict narrow bytes))) }
 {
-    Print::write_all(&out, text)
+    out.write_all(text)
 }
 
 fn main(rt: HostRuntime) -> io::Result<()> {

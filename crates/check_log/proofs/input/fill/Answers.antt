@@ -1,5 +1,4 @@
 -- `fill` makes reads until one is the last.
-use Prim.Native.Nat.{◌-◌}
 use mathlib.Core.Path.{refl}
 use mathlib.Core.List.{[]}
 use native.Mathlib.Omega.{arith}
