@@ -79,7 +79,7 @@ def documents():
 
 DOCUMENTS = documents()
 # The notes on changes before the crates were joined; docs/changes/house.md says where each crate of theirs is now.
-PAST = {f"docs/changes/{name}.md" for name in "a b cost crates d e f g i k m shape statements".split()}
+PAST = {f"docs/changes/{name}.md" for name in "a b cost crates d e f g i k m shape statements".split()} | {"docs/PORT.md"}
 # A crate's line of crates.txt, as NAME: DEPENDENCIES or NAME staticlib: DEPENDENCIES; the static library NAME_c has the archive libNAME.a.
 LISTED = [line.split(":")[0].split() for line in read("crates.txt").split("\n") if ":" in line and not line.startswith("#")]
 CRATES = {words[0] for words in LISTED}
@@ -195,7 +195,7 @@ def c_names():
         for span in document.spans:
             for name in re.findall(r"\b(?:throttle|THROTTLE)_\w+", span):
                 count("C names")
-                if name not in declared and name not in files:
+                if name not in declared | files | CRATES:
                     fault(f"{document.path}: no header has {name}")
 
 
@@ -225,7 +225,7 @@ def names():
     sources = [p for p in FILES if p.suffix in {".rt", ".antt", ".h", ".c", ".rs"}]
     known = set(re.findall(r"\w+", "\n".join(map(read, sources)))) | {p.stem for p in sources}
     for document in DOCUMENTS:
-        if document.path == PROVED or document.path.startswith("docs/changes/"):
+        if document.path == PROVED or document.path in PAST or document.path.startswith("docs/changes/"):
             continue
         for name in (s for s in document.spans if re.fullmatch(r"(?=\w*[a-z])(?=\w*[A-Z])[A-Za-z]\w*|[a-z]+(_\w+)+", s)):
             count("names")

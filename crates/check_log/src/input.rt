@@ -25,6 +25,7 @@ pub enum Read {
 
 // Nothing is left to read, where `done` bytes of a block are there.
 // It rules out: an input that ends within a block taken for one at its end.
+#[tactic(auto, unfolding(crate::specs::Reads::nothing_left))]
 fn nothing_left(done: usize) -> Filled
     ensures { result ≡ nothing_left done }
 {

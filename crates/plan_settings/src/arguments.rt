@@ -41,6 +41,7 @@ fn wide(x: u8) -> u64
 }
 
 // The number up to `most` that the word stands for.
+#[tactic(auto, using(crate::proofs::arguments::Reading::high_is_wrong))]
 fn read_word(word: &[u8], most: u64) -> Number
     requires { most ≤ 2 ^ 60 }
     ensures { result ≡ number_of most word.now }

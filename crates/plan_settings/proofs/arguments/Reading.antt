@@ -1,5 +1,5 @@
 -- A word read byte by byte: what one byte more gives, over plain variables. The code is that of the byte at place i.
-use mathlib.Core.Path.{◌≡◌, ◌∙◌}
+use mathlib.Core.Path.{◌≡◌, refl, ◌∙◌}
 use mathlib.Core.List.{List}
 use mathlib.Core.Bool.{cond}
 use Prim.Native.Nat.{ℕ, zero, suc, ◌+◌, ◌-◌, ◌≤◌, ◌<◌}
@@ -50,3 +50,7 @@ unfolding number_of
 at_start most word h =
     let z : length word - 0 ≡ length word = omega arith in
     simp (ne_eqb (length word) 0 h, z)
+
+-- the byte itself is above the digits
+pub high_is_wrong : (most : ℕ) (word : List ℕ) (i v : ℕ) → i < length word → 57 < get_or word i 0 → digits_from most (length word - i) word i v ≡ wrong
+high_is_wrong most word i v h k = no_digit_high most word i v (get_or word i 0) h refl (omega arith) k

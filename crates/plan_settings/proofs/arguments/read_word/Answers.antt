@@ -1,10 +1,9 @@
 -- `read_word`. The loop's invariant: what is left of the word, read after the number so far, gives the number of the whole word.
-use Prim.Native.Nat.{◌-◌}
 use mathlib.Core.Path.{sym, ◌∙◌}
 use native.Mathlib.Omega.{arith}
 use borrow.Author.Tests.{eq-eqb}
 use Rattle.plan_settings.specs.Decimal.{number_of}
-use Rattle.plan_settings.proofs.arguments.Reading.{no_digit_low, no_digit_high, too_large, one_more, all_read, at_start}
+use Rattle.plan_settings.proofs.arguments.Reading.{no_digit_low, too_large, one_more, all_read, at_start}
 use borrow.Author.Rules.{rules}
 use Rattle.plan_settings.proofs.arguments.read_word.Goals as goal
 
@@ -21,21 +20,15 @@ returns-then-code-lt48 c =
     ∙ sym (no_digit_low c.args.most c.args.word.now c.loop-i.i c.loop-i.v c.wide-code.result c.loop-i-test.true c.wide-code.ensures c.if-code-lt48.true)
     ∙ c.loop-i.invariant.2
 
-pub returns-then-code-gt57 : goal.returns-then-code-gt57
-returns-then-code-gt57 c =
-    c.wrong-then-code-gt57.ensures
-    ∙ sym (no_digit_high c.args.most c.args.word.now c.loop-i.i c.loop-i.v c.wide-code.result c.loop-i-test.true c.wide-code.ensures c.if-code-lt48.false c.if-code-gt57.true)
-    ∙ c.loop-i.invariant.2
-
 pub returns-then-v-most : goal.returns-then-v-most
 returns-then-v-most c =
     c.wrong-then-v-most.ensures
-    ∙ sym (too_large c.args.most c.args.word.now c.loop-i.i c.loop-i.v c.wide-code.result c.loop-i-test.true c.wide-code.ensures c.if-code-lt48.false c.if-code-gt57.false c.if-v-most.true)
+    ∙ sym (too_large c.args.most c.args.word.now c.loop-i.i c.loop-i.v c.wide-code.result c.loop-i-test.true c.wide-code.ensures c.if-code-lt48.false (omega arith) c.if-v-most.true)
     ∙ c.loop-i.invariant.2
 
 pub loop-i-preserved : goal.loop-i-preserved
 loop-i-preserved c =
-    let more = one_more c.args.most c.args.word.now c.loop-i.i c.loop-i.v c.wide-code.result c.loop-i-test.true c.wide-code.ensures c.if-code-lt48.false c.if-code-gt57.false c.if-v-most.false in
+    let more = one_more c.args.most c.args.word.now c.loop-i.i c.loop-i.v c.wide-code.result c.loop-i-test.true c.wide-code.ensures c.if-code-lt48.false (omega arith) c.if-v-most.false in
     (omega arith, omega arith, sym more ∙ c.loop-i.invariant.2)
 
 pub returns : goal.returns
