@@ -80,6 +80,10 @@ def documents():
 DOCUMENTS = documents()
 # The notes on changes before the crates were joined; docs/changes/house.md says where each crate of theirs is now.
 PAST = {f"docs/changes/{name}.md" for name in "a b cost crates d e f g i k m shape statements".split()} | {"docs/PORT.md"}
+# The place of each former crate, as CRATE or CRATE::MODULE, by the table of docs/changes/house.md.
+FORMER = {}
+for cells in (line.strip("| ").split("|") for line in read("docs/changes/house.md").split("\n") if line.startswith("| `")):
+    FORMER.update((a.strip(" `"), b.strip(" `")) for a, b in zip(cells[::2], cells[1::2]) if "`" in a)
 # A crate's line of crates.txt, as NAME: DEPENDENCIES or NAME staticlib: DEPENDENCIES; the static library NAME_c has the archive libNAME.a.
 LISTED = [line.split(":")[0].split() for line in read("crates.txt").split("\n") if ":" in line and not line.startswith("#")]
 CRATES = {words[0] for words in LISTED}
@@ -128,6 +132,18 @@ def exists(word, folder):
     return any(any(base.glob(pattern)) for base in (ROOT, ROOT / "crates", folder)) or any(any(ROOT.glob(w)) for w in within)
 
 
+def was(word):
+    """Whether a path of a note on a past change stands in the place where its former crate is now."""
+    found = re.match(r"(?:crates/)?(\w+)/(specs|src|proofs|must-fail)/(.+)", word)
+    if not found or found[1] not in FORMER:
+        return False
+    crate, *module = FORMER[found[1]].split("::")
+    places = [Path("crates", crate, found[2], *middle, found[3]) for middle in ([], module)]
+    if found[2] == "src" and found[3] == "lib.rt" and module:
+        places.append(Path("crates", crate, "src", module[0] + ".rt"))
+    return any((ROOT / place).exists() for place in places)
+
+
 def looks_like_path(word):
     """Whether a word of a code span looks like a file or folder of the repository."""
     first = word.removeprefix("./").split("/")[0]
@@ -141,15 +157,16 @@ def looks_like_path(word):
 
 
 def paths():
-    """Every path in a code span, and in a line of code that is a command, exists. Notes on past changes name what stood then."""
-    for document in (d for d in DOCUMENTS if d.path not in PAST):
+    """Every path in a code span, and in a line of code that is a command, exists; in a note on a past change also where it is now."""
+    for document in (d for d in DOCUMENTS if d.path != "docs/PORT.md"):
         folder = (ROOT / document.path).parent
+        past = document.path in PAST
         for span in document.spans:
             for word in (w.rstrip(",;:.") for w in span.split()):
                 if not looks_like_path(word):
                     continue
                 count("paths")
-                if not exists(word, folder) and word not in NAMES:
+                if not exists(word, folder) and word not in NAMES and not (past and was(word)):
                     fault(f"{document.path}: there is no {word}")
         made = set(re.findall(r"-o (\S+)", "\n".join(document.code)))
         for line in document.code:
@@ -157,7 +174,7 @@ def paths():
                 if "/" not in word or word.removeprefix("./") in made or not looks_like_path(word):
                     continue
                 count("paths")
-                if not exists(word, folder):
+                if not exists(word, folder) and not (past and was(word)):
                     fault(f"{document.path}: there is no {word}, in: {line}")
 
 
