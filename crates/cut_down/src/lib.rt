@@ -4,10 +4,10 @@
 #![tactic(auto)]
 
 mod blocks;
+mod cut_refusal;
 mod kept;
 mod left_out;
 mod passes;
-mod refusal;
 mod run;
 mod selection;
 
@@ -15,8 +15,8 @@ ghost use Rattle.std.specs.Prelude.{◌≡◌};
 ghost use Rattle.rules.specs.Policy.{narrow};
 ghost use Rattle.cut_rules.specs.Cut.{cut_of, code_of, out_of};
 
+use crate::cut_refusal::log_refusal;
 use crate::passes::passes;
-use crate::refusal::log_refusal;
 use crate::run::differs;
 use crate::selection::all_of;
 

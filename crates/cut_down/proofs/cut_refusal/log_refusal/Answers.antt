@@ -7,8 +7,8 @@ use Rattle.rules.specs.declared.Limits.{Limits}
 use Rattle.rules.specs.Answers.{refusal_number}
 use Rattle.rules.specs.Setting.{setting_refusal}
 use Rattle.rules.specs.Policy.{limits01}
-use Rattle.cut_down.proofs.refusal.Parts.{refused_empty, refused_block, refused_setting, refused_later}
-use Rattle.cut_down.proofs.refusal.log_refusal.Goals as goal
+use Rattle.cut_down.proofs.cut_refusal.Parts.{refused_empty, refused_block, refused_setting, refused_later}
+use Rattle.cut_down.proofs.cut_refusal.log_refusal.Goals as goal
 
 pub returns-then-bytes-eq0 : goal.returns-then-bytes-eq0
 returns-then-bytes-eq0 c = (refused_empty c.args.bytes.now c.if-bytes-eq0.true, λ z. absurd (omega arith))
