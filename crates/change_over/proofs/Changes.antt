@@ -1,22 +1,29 @@
 -- The copy, cell by cell, and the refusals of the change-over as tests of what was lent.
-use Prim.Native.Nat.{ℕ, ◌+◌, ◌≤◌, ◌<◌, min}
+use Prim.Native.Nat.{ℕ, ◌≤◌, ◌<◌, min}
 use mathlib.Core.Path.{◌≡◌, refl, sym, ap, ◌∙◌}
-use mathlib.Core.Logic.{◌≢◌}
-use mathlib.Core.List.{List}
-use mathlib.Core.Bool.{Bool, true, false, not, ◌||◌, cond}
+use mathlib.Core.List.{List, ◌++◌}
+use mathlib.Core.Bool.{Bool, true, false, not, ◌||◌}
 use native.Mathlib.Omega.{arith}
 use native.Mathlib.Decide.{dec_lt}
 use lib.Dec.{ltb}
-use lib.ListN.{length, get_or, set}
+use lib.ListN.{length, get_or, take, drop}
+use borrow.Author.Rules.{rules}
+use Rattle.std.proofs.lemmas.List.{places}
 use borrow.Author.Tests.{lt-ltb, le-ltb, eq-eqb, ne_eqb}
 use Rattle.rules.specs.declared.Setting.{Setting}
+use Rattle.rules.specs.declared.Limits.{Limits}
+use Rattle.refused.specs.declared.Refusal.{Refusal}
+use Rattle.refused.specs.Numbers.{number_of, code_of}
+use Rattle.refused.specs.Passed.{passed}
+use Rattle.refused.proofs.Laws.{code_passed, number_some}
+use Rattle.std.specs.Prelude.{Result, Ok, Err}
 use Rattle.rules.specs.Answers.{none, short_buffer, bad_memory, refusal_number, refuse, or_else}
 use Rattle.rules.specs.Setting.{history_length, setting_refusal}
 use Rattle.rules.specs.State.{State, counters_used, threads_used, head_of, too_short}
 use Rattle.rules.specs.History.{memory_ok}
 use Rattle.rules.specs.Policy.{limits01}
 use Rattle.rules.proofs.Tests.{or_false, or_true}
-use Rattle.rules.proofs.Cells.{map_same, store_map}
+use Rattle.rules.proofs.Cells.{is_map_cells}
 use Rattle.rules.proofs.Accept.{number_none}
 use Rattle.refusal.specs.Memory.{memory_test}
 use Rattle.refusal.specs.Lengths.{short_test, setup_test}
@@ -28,21 +35,16 @@ use Rattle.interface.specs.Left.{found}
 
 -- ---- the copy
 
-pub copied_none : (old new : List ℕ) → new ≡ copied 0 old new
+-- the first `used` counters in place of the others, each as the old one, are the copy
+pub copied_first : (used : ℕ) (old new first : List ℕ) → used ≤ length new → length first ≡ used
+    → ((j : ℕ) → j < used → get_or first j 0 ≡ get_or (take used old) j 0) → first ++ drop used new ≡ copied used old new
 unfolding copied
-copied_none old new = sym (map_same (copied_cell 0 old) (λ i c. rw (le-ltb i 0 (omega arith))) new)
-
-pub copied_more : (i : ℕ) (old new : List ℕ) (v : ℕ) → i < length new → v ≡ get_or old i 0 → set (copied i old new) i v ≡ copied (i + 1) old new
-unfolding copied
-copied_more i old new v h e =
-    store_map (copied_cell i old) (copied_cell (i + 1) old) new i v h
-    (rw (lt-ltb i (i + 1) (omega arith)) e) (λ j c p. ap (λ q. cond q (get_or old j 0) c) (same j p (dec_lt j i)))
+copied_first used old new first long e same =
+    is_map_cells (copied_cell used old) (first ++ drop used new) new (search (rules, places)) (λ j h. cell j h (dec_lt j used))
   where
-    same : (j : ℕ) → j ≢ i → Dec (j < i) → ltb j i ≡ ltb j (i + 1)
-    same j p (yes k) = lt-ltb j i k ∙ sym (lt-ltb j (i + 1) (omega arith))
-    same j p (no k) =
-        let l : i + 1 ≤ j = omega arith in
-        le-ltb j i (omega arith) ∙ sym (le-ltb j (i + 1) l)
+    cell : (j : ℕ) → j < length new → Dec (j < used) → get_or (first ++ drop used new) j 0 ≡ copied_cell used old j (get_or new j 0)
+    cell j h (yes k) = let x : get_or first j 0 ≡ get_or (take used old) j 0 = same j k in rw (lt-ltb j used k) (grind (arith, places))
+    cell j h (no k) = rw (le-ltb j used (omega arith)) (grind (arith, places))
 
 -- ---- the refusals
 
@@ -76,19 +78,23 @@ module _ (s : Setting) (seeds words old new ticks rows threads : List ℕ) where
       (sym (second_last (ltb (length old) (counters_used s)) (ltb (length new) (counters_used s)) (ltb (length ticks) (history_length s)) (ltb (length rows) (history_length s)) (ltb (length threads) (threads_used s)))
       ∙ ap (λ q. ((q || ltb (length ticks) (history_length s)) || ltb (length rows) (history_length s)) || ltb (length threads) (threads_used s)) (sym (shorter_short (length old) (length new) (counters_used s))))
 
-  -- the code by the tests is that of the rules
-  module _ (code : ℕ) (e : code ≡ refusal_number (lent_test limits01 s seeds (head_of words) (min (length old) (length new)) ticks (length rows) (length threads) true)) where
-    code_is : code ≡ refusal_number (change_over_refusal s seeds saved new)
-    code_is = e ∙ ap refusal_number (sym refusal_test)
+  -- what the tests answer is what the rules refuse
+  module _ (m : Limits) (shorter : ℕ) (tested : Result (Unit {0}) Refusal) (em : m ≡ limits01) (es : shorter ≡ min (length old) (length new))
+      (e : tested ≡ passed (lent_test m s seeds (head_of words) shorter ticks (length rows) (length threads) true)) where
+    code_is : code_of tested ≡ refusal_number (change_over_refusal s seeds saved new)
+    code_is =
+        rw (em, es) at (ap code_of e ∙ code_passed (lent_test m s seeds (head_of words) shorter ticks (length rows) (length threads) true)) ∙ ap refusal_number (sym refusal_test)
 
     -- what the tests that it passed give
-    pub passed : code ≡ 0 → Taken s seeds saved new
-    passed z = taken s seeds saved new (number_none _ (sym code_is ∙ z))
+    pub all_passed : (u : Unit {0}) → tested ≡ Ok u → Taken s seeds saved new
+    all_passed u k = taken s seeds saved new (number_none _ (sym code_is ∙ ap code_of k))
 
-    pub left_refused : code ≢ 0 → changed_over code new ≡ change_over s seeds saved new
+    pub left_refused : (r : Refusal) → tested ≡ Err r → changed_over (number_of r) new ≡ change_over s seeds saved new
     unfolding change_over
-    left_refused h = rw (ne_eqb (refusal_number (change_over_refusal s seeds saved new)) 0 (λ z. h (code_is ∙ z))) (ap (λ n. changed_over n new) code_is)
+    left_refused r k =
+        let n : number_of r ≡ refusal_number (change_over_refusal s seeds saved new) = sym (ap code_of k) ∙ code_is in
+        rw (ne_eqb (refusal_number (change_over_refusal s seeds saved new)) 0 (λ z. number_some r (n ∙ z))) (ap (λ x. changed_over x new) n)
 
-    pub left_taken : code ≡ 0 → changed_over 0 (copied (counters_used s) old new) ≡ change_over s seeds saved new
+    pub left_taken : (u : Unit {0}) → tested ≡ Ok u → changed_over 0 (copied (counters_used s) old new) ≡ change_over s seeds saved new
     unfolding change_over
-    left_taken z = rw (eq-eqb (refusal_number (change_over_refusal s seeds saved new)) 0 (sym code_is ∙ z)) refl
+    left_taken u k = rw (eq-eqb (refusal_number (change_over_refusal s seeds saved new)) 0 (sym code_is ∙ ap code_of k)) refl

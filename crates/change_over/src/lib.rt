@@ -2,33 +2,31 @@
 // reading only, and so are the old counters.
 #![tactic(auto)]
 
-ghost use Rattle.std.specs.Prelude.{◌≡◌, ◌≤◌, min, length};
+ghost use Rattle.std.specs.Prelude.{◌≡◌, ◌≤◌, length};
 ghost use Rattle.rules.specs.Setting.{setting_of};
 ghost use Rattle.rules.specs.Policy.{limits01};
 ghost use Rattle.widths.specs.ChangeOver.{copied, changed_over, change_over};
 ghost use Rattle.interface.specs.Left.{found};
 
-use refusal::lent_refusal;
+use refusal::{Lent, lent_refusal};
 use rules::Limits;
 use setting::house_seeds::difference;
 
+// Kept: what is used stands beside the counters, since a lent buffer may be longer and its rest stays as it is (C interface).
 // The first counters become the old ones, as numbers.
 fn take_over(old: &[u16], counters: &mut [u32], used: usize)
     requires { (used ≤ length old.now) × (used ≤ length counters.old) }
     ensures { counters.new ≡ copied used old.now counters.old }
 {
-    for i in 0..used {
-        counters[i] = old[i] as u32;
+    let old = &old[..used];
+    // Kept: tried as a zip of the two; after it a proof knows the length of the counters and not what they hold.
+    for (i, c) in counters[..used].iter_mut().enumerate() {
+        *c = u32::from(old[i]);
     }
 }
 
-fn shorter(a: usize, b: usize) -> usize
-    ensures { result ≡ min a b }
-{
-    if a < b { a } else { b }
-}
-
 // The change-over on the caller's memory; m are the limits of the old width. The shorter of the two counter buffers decides whether one is too short.
+// Kept: it returns the number of the refusal, as the C interface does (throttle_change_over).
 pub fn change_over(
     m: Limits,
     setting: &[u64; 10],
@@ -43,21 +41,17 @@ pub fn change_over(
     requires { m ≡ limits01 }
     ensures { changed_over result counters.new ≡ change_over (setting_of setting.now) seeds.now (found head.now old.now ticks.now rows.now threads.now) counters.old }
 {
-    let differing = difference(seeds);
-    let code = lent_refusal(
-        m,
+    let lent = Lent {
         setting,
-        differing,
         seeds,
+        differing: difference(seeds),
         head,
-        shorter(old.len(), counters.len()),
+        counters: old.len().min(counters.len()),
         ticks,
-        rows.len(),
-        threads.len(),
-        true,
-    );
-    if code != 0 {
-        return code;
+        rows: rows.len(),
+    };
+    if let Err(refusal) = lent_refusal(m, lent, threads.len(), true) {
+        return u32::from(refusal);
     }
     let s = setting::load(setting);
     take_over(old, counters, (s.banks * 2048) as usize);

@@ -5,16 +5,18 @@
 
 mod input;
 
-ghost use Rattle.std.specs.Prelude.{ℕ, ◌≡◌, List};
+ghost use Rattle.std.specs.Prelude.{ℕ, ◌≡◌, List, IfOk};
 ghost use Rattle.rules.specs.Policy.{narrow};
 ghost use Rattle.log_format.specs.Verdict.{verdict};
-ghost use Rattle.judge.specs.Follow.{report_of};
-ghost use Rattle.judge.specs.Blocks.{read_so_far, Carried, Ready, JudgedBlock};
+ghost use Rattle.sound.specs.Held.{Same};
+ghost use Rattle.judge.specs.Follow.{going, report_of};
+ghost use Rattle.judge.specs.Blocks.{read_in, Carried, Ready, JudgedBlock};
 ghost use Rattle.report.specs.Text.{text_of};
 ghost use Rattle.check_log.specs.Fills.{judge_filled};
 
 use crate::input::Filled;
-use judge::reading::{Next, Reading};
+use judge::reading::Reading;
+use sound::buffers::Buffers;
 use std::io::{self, Stdin, Stdout};
 use tally::Report;
 
@@ -23,36 +25,19 @@ use tally::Report;
 fn judge_filled(
     filled: Filled,
     x: Reading,
-    counters: &mut [u16],
-    ticks: &mut [u64],
-    rows: &mut [u32],
-    threads: &mut [u32],
+    m: &mut Buffers<'_, u16>,
     block: &[u8; 512],
-) -> Next
-    requires { Ready (read_so_far x counters.old ticks.old rows.old threads.old) × Carried x }
-    ensures { JudgedBlock x.progress.blocks result.over result.report (read_so_far result.reading counters.new ticks.new rows.new threads.new) (judge_filled filled (read_so_far x counters.old ticks.old rows.old threads.old) block.now) × Carried result.reading }
+) -> Result<Reading, Report>
+    requires { Ready (read_in x m.old) × Carried x }
+    ensures same { Same m.old m.new }
+    ensures judged { JudgedBlock x.progress.blocks (going (λ y. read_in y m.new) result) (judge_filled filled (read_in x m.old) block.now) }
+    ensures carried { IfOk result Carried }
 {
-    let p = x.progress;
     match filled {
-        Filled::Whole => {}
-        Filled::End => {
-            let report = checker::end::at_end(p, true);
-            return Next {
-                over: true,
-                report,
-                reading: x,
-            };
-        }
-        Filled::Cut => {
-            let report = checker::end::at_end(p, false);
-            return Next {
-                over: true,
-                report,
-                reading: x,
-            };
-        }
+        Filled::Whole => checker::block::judge_block(x, m, block),
+        Filled::End => Err(checker::end::at_end(x.progress, true)),
+        Filled::Cut => Err(checker::end::at_end(x.progress, false)),
     }
-    checker::block::judge_block(x, counters, ticks, rows, threads, block)
 }
 
 // The report on standard input. A block that goes on has a number of 32 bits, so the loop ends.
@@ -60,28 +45,19 @@ fn run(mut input: Stdin) -> Report
     ensures { (bytes : List ℕ) × (result ≡ report_of (verdict narrow bytes)) }
 {
     let mut block = [0u8; 512];
-    let mut counters = [0u16; 32768];
-    let mut ticks = [0u64; 4096];
-    let mut rows = [0u32; 4096];
-    let mut threads = [0u32; 1536];
+    let mut m = Buffers {
+        counters: &mut [0; 32768],
+        ticks: &mut [0; 4096],
+        rows: &mut [0; 4096],
+        threads: &mut [0; 1536],
+    };
     let mut x = judge::unread::start();
     loop {
         let filled = crate::input::fill(&mut input, &mut block);
-        let r = judge_filled(
-            filled,
-            x,
-            &mut counters,
-            &mut ticks,
-            &mut rows,
-            &mut threads,
-            &block,
-        );
-        if r.over {
-            let report = r.report;
-            return report;
+        match judge_filled(filled, x, &mut m, &block) {
+            Ok(next) => x = next,
+            Err(report) => return report,
         }
-        let next = r.reading;
-        x = next;
     }
 }
 

@@ -9,20 +9,15 @@ use tally::{Progress, Report};
 pub fn at_end(p: Progress, whole: bool) -> Report
     ensures { result ≡ report_of (ended (progress_of p) whole) }
 {
-    if whole {
-        if p.blocks == 0 {
-            return Report::Refused {
-                number: 11,
-                blocks: 0,
-            };
-        }
-        return Report::Agrees {
+    match (whole, p.blocks) {
+        (true, 0) => Report::Refused {
+            number: 11,
+            blocks: 0,
+        },
+        (true, _) => Report::Agrees {
             records: p.records,
             opened: p.opened,
-        };
-    }
-    Report::Refused {
-        number: 11,
-        blocks: p.blocks,
+        },
+        (false, blocks) => Report::Refused { number: 11, blocks },
     }
 }

@@ -16,7 +16,7 @@ ghost use Rattle.judge.specs.Follow.{report_of};
 use crate::block::judge_block;
 use crate::end::at_end;
 use judge::unread::start;
-use log_read::slice::block_at;
+use sound::buffers::Buffers;
 use tally::Report;
 
 // The report of a log, for every list of bytes.
@@ -24,31 +24,19 @@ use tally::Report;
 pub fn judge_log(bytes: &[u8]) -> Report
     ensures { result ≡ report_of (verdict narrow bytes.now) }
 {
-    let mut counters = [0u16; 32768];
-    let mut ticks = [0u64; 4096];
-    let mut rows = [0u32; 4096];
-    let mut threads = [0u32; 1536];
-    let n = bytes.len() / 512;
+    let mut m = Buffers {
+        counters: &mut [0; 32768],
+        ticks: &mut [0; 4096],
+        rows: &mut [0; 4096],
+        threads: &mut [0; 1536],
+    };
+    let (blocks, rest) = bytes.as_chunks::<512>();
     let mut x = start();
-    let mut b: usize = 0;
-    while b < n {
-        let block = block_at(bytes, b);
-        let r = judge_block(
-            x,
-            &mut counters,
-            &mut ticks,
-            &mut rows,
-            &mut threads,
-            &block,
-        );
-        if r.over {
-            let report = r.report;
-            return report;
+    for block in blocks {
+        match judge_block(x, &mut m, block) {
+            Ok(next) => x = next,
+            Err(report) => return report,
         }
-        let next = r.reading;
-        x = next;
-        b += 1;
     }
-    let p = x.progress;
-    at_end(p, bytes.len() % 512 == 0)
+    at_end(x.progress, rest.is_empty())
 }

@@ -1,2 +1,2 @@
 // The order of openings (document 02, m): within one epoch a filter's contents depend on what it held before and on the group of openings, and not on their
-// order. There is no code here; `filter::count` and `wide_filter::count` count an opening.
+// order. There is no code here; `filter::count` counts an opening.

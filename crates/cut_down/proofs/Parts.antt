@@ -1,10 +1,10 @@
 -- The parts of the answer: a refusal of the log, 20, 21, or the selection.
 use mathlib.Core.Path.{◌≡◌, sym, ap, ◌∙◌}
 use mathlib.Core.List.{List, [], ◌∷◌}
-use mathlib.Core.Bool.{Bool, true, false, not}
+use mathlib.Core.Bool.{Bool, true, false}
 use Prim.Native.Nat.{ℕ, suc, ◌-◌, ◌^◌, ◌≤◌, ◌<◌}
 use native.Mathlib.Omega.{arith}
-use lib.ListN.{length, replicate, length-replicate}
+use lib.ListN.{length, replicate}
 use Rattle.rules.specs.Policy.{limits01, narrow}
 use Rattle.log_format.specs.Bytes.{block_at}
 use Rattle.log_format.specs.Refusals.{log_refusal_number}
@@ -13,24 +13,8 @@ use Rattle.cut_rules.specs.selections.Selections.{cut_down, word, bits}
 use Rattle.cut_rules.proofs.selections.Words.{bits_all}
 use Rattle.cut_rules.proofs.selections.Chosen.{chosen_all}
 use Rattle.cut_rules.specs.Cut.{log_refusal, differing, differs_with, Cut, refused_with, keeps, cut_of, code_of, out_of}
-use Rattle.cut_rules.specs.Roomy.{Roomy}
 use Rattle.cut_rules.proofs.Blocks.{refused_not}
 use Rattle.cut_rules.proofs.Codes.{cut_refused, cut_many, cut_same, cut_keeps}
-
--- a test that is turned round
-pub turned : (b c : Bool) → not b ≡ c → b ≡ not c
-turned true c e = ap not e
-turned false c e = ap not e
-
--- the call's own memory
-pub roomy_zeros : Roomy limits01 (replicate 32768 0) (replicate 4096 0) (replicate 4096 0) (replicate 1536 0)
-roomy_zeros =
-    record {
-      counters = omega (arith, length-replicate {A = ℕ} 32768 0);
-      ticks = omega (arith, length-replicate {A = ℕ} 4096 0);
-      rows = omega (arith, length-replicate {A = ℕ} 4096 0);
-      threads = omega (arith, length-replicate {A = ℕ} 1536 0);
-    }
 
 -- what a call left that returned the code
 abbrev pub Leaves : List ℕ → ℕ → List ℕ → List ℕ → Type 0

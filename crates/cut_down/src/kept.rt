@@ -3,63 +3,49 @@
 ghost use Rattle.std.specs.Prelude.{◌≡◌, ◌≤◌, length};
 ghost use Rattle.rules.specs.Answers.{none};
 ghost use Rattle.rules.specs.Setting.{setting_refusal};
-ghost use Rattle.rules.specs.State.{state};
 ghost use Rattle.rules.specs.Policy.{limits01, narrow};
 ghost use Rattle.rules.specs.Tested.{Sound};
 ghost use Rattle.log_format.specs.Verdict.{judge_records};
 ghost use Rattle.log_format.specs.Claims.{records_of, WellFormed};
-ghost use Rattle.hash_rules.specs.Words.{TableFor};
+ghost use Rattle.sound.specs.Held.{Same, held};
 ghost use Rattle.judge.specs.Follow.{running};
+ghost use Rattle.judge.specs.Blocks.{Carried};
 ghost use Rattle.cut_rules.specs.selections.Selections.{chosen, bits};
 ghost use Rattle.cut_rules.specs.Cut.{says_differs};
 ghost use Rattle.cut_down.specs.Kept.{none_judged};
 
 use crate::blocks::record_at;
-use crate::selection::{is_differing, next_kept};
-use head::Head;
+use crate::selection::{is_differing, is_kept};
 use judge::entry::judge_record;
-use rules::Setting;
+use judge::reading::Reading;
+use sound::buffers::Buffers;
 use tally::Progress;
 
 // The records that stay, on a model that is set up.
-pub fn judge_kept(
-    s: Setting,
-    table: bool,
-    seeds: &[u16],
-    h: Head,
-    counters: &mut [u16],
-    ticks: &mut [u64],
-    rows: &mut [u32],
-    threads: &mut [u32],
-    bytes: &[u8],
-    n: u64,
-    kept: u64,
-) -> bool
-    requires { (setting_refusal limits01 s seeds.now ≡ none) × Sound s (state h counters.old ticks.old rows.old threads.old) × TableFor table seeds.now × WellFormed bytes.now × (n ≡ length (records_of bytes.now)) × (n ≤ 64) }
-    ensures { result ≡ says_differs (judge_records narrow (running none_judged s seeds.now (state h counters.old ticks.old rows.old threads.old)) (chosen (bits n kept) (records_of bytes.now))) }
+pub fn judge_kept(x: Reading, m: &mut Buffers<'_, u16>, bytes: &[u8], n: u64, kept: u64) -> bool
+    requires { (setting_refusal limits01 x.setting x.seeds ≡ none) × Sound x.setting (held x.head m.old) × Carried x × WellFormed bytes.now × (n ≡ length (records_of bytes.now)) × (n ≤ 64) }
+    ensures same { Same m.old m.new }
+    ensures differing { result ≡ says_differs (judge_records narrow (running none_judged x.setting x.seeds (held x.head m.old)) (chosen (bits n kept) (records_of bytes.now))) }
 {
+    let setting = x.setting;
+    let table = x.table;
+    let seeds = x.seeds;
+    let mut head = x.head;
     let mut progress = Progress {
         blocks: 1,
         records: 0,
         opened: 0,
         last: 0,
     };
-    let mut head = h;
-    let mut i = next_kept(kept, 0, n);
-    while i < n {
-        let e = record_at(bytes, i);
-        let r = judge_record(
-            s, table, seeds, head, counters, ticks, rows, threads, progress, e,
-        );
-        if r.over {
-            let report = r.report;
-            return is_differing(report);
+    for i in 0..n {
+        if !is_kept(kept, i) {
+            continue;
         }
-        let counted = r.progress;
-        let left = r.head;
-        progress = counted;
-        head = left;
-        i = next_kept(kept, i + 1, n);
+        let e = record_at(bytes, i);
+        match judge_record(setting, table, &seeds, &mut head, m, progress, e) {
+            Ok(counted) => progress = counted,
+            Err(report) => return is_differing(report),
+        }
     }
     false
 }

@@ -1,8 +1,8 @@
-// Small parts of cutting a log down, without its memory: the number that selects all records, the next record that a selection keeps, and what a report
-// says of records. A selection is a number, bit i for record i.
-ghost use Rattle.std.specs.Prelude.{◌≡◌, ◌^◌, ◌-◌, ◌≤◌};
-ghost use Rattle.cut_rules.specs.selections.Selections.{bits};
-ghost use Rattle.cut_down.specs.Kept.{NextKept, report_differs};
+// Small parts of cutting a log down, without its memory: the number that selects all records, whether a record stays, and what a report says of
+// records. A selection is a number, bit i for record i.
+ghost use Rattle.std.specs.Prelude.{◌≡◌, ℕ, ◌^◌, ◌-◌, ◌≤◌, ◌<◌};
+ghost use Rattle.cut_rules.specs.selections.Selections.{stays, bits};
+ghost use Rattle.cut_down.specs.Kept.{report_differs};
 
 use tally::Report;
 
@@ -12,45 +12,22 @@ pub fn all_of(n: u64) -> u64
     ensures { result ≡ 2 ^ n - 1 }
 {
     if n == 64 {
-        return 18446744073709551615;
+        return u64::MAX;
     }
     (1u64 << n) - 1
 }
 
-// The first of n records from record i on that stays, or n.
-pub fn next_kept(kept: u64, i: u64, n: u64) -> u64
-    requires { (i ≤ n) × (n ≤ 64) }
-    ensures { NextKept (bits n kept) i n result }
+// Record i stays.
+pub fn is_kept(kept: u64, i: u64) -> bool
+    requires { i < 64 }
+    ensures { (n : ℕ) → i < n → result ≡ stays (bits n kept) i }
 {
-    let mut k = i;
-    while k < n {
-        let shifted = kept >> k;
-        if shifted % 2 == 1 {
-            return k;
-        }
-        k += 1;
-    }
-    n
+    (kept >> i) % 2 == 1
 }
 
 // A report says `differs`. A refusal counts as not differing.
 pub fn is_differing(report: Report) -> bool
     ensures { result ≡ report_differs report }
 {
-    match report {
-        Report::Refused {
-            number: _,
-            blocks: _,
-        } => false,
-        Report::Agrees {
-            records: _,
-            opened: _,
-        } => false,
-        Report::Differs {
-            records: _,
-            opened: _,
-            block: _,
-            place: _,
-        } => true,
-    }
+    matches!(report, Report::Differs { .. })
 }

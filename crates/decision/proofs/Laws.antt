@@ -20,9 +20,9 @@ passed_leb gap stored t = go (eqb stored 0)
     go false = refl
 
 -- the decision from the ends of the gaps and the wait tick
-pub decide_tests : (s : Setting) (t : ℕ) (v : View) (bank rank gaps until : ℕ) → bank ≡ gap_end s.trc v.bank → rank ≡ gap_end s.tfaw v.rank
-    → gaps ≡ max t (max bank rank) → until ≡ closed_tick s.n v.end gaps v.delay v.active v.other
+pub decide_tests : (s : Setting) (t : ℕ) (v : View) {bank rank both gaps until : ℕ} → bank ≡ gap_end s.trc v.bank → rank ≡ gap_end s.tfaw v.rank
+    → both ≡ max bank rank → gaps ≡ max t both → until ≡ closed_tick s.n v.end gaps v.delay v.active v.other
     → decide_from s t v ≡ first_failing (ltb v.flying v.quota) (leb bank t) (leb rank t) (ltb v.active s.n || leb v.delay t) until
 unfolding decide_from wait_from gaps_end
-decide_tests s t v bank rank gaps until eb er eg eu =
-    rw (passed_leb s.trc v.bank t, passed_leb s.tfaw v.rank t, ← eb, ← er, ← eg, ← eu)
+decide_tests s t v eb er ex eg eu =
+    rw (passed_leb s.trc v.bank t, passed_leb s.tfaw v.rank t, ← eb, ← er, ← ex, ← eg, ← eu)

@@ -8,18 +8,14 @@ use rules::{Answer, Decision};
 pub fn opens(d: Decision) -> bool
     ensures { result ≡ opens d }
 {
-    match d {
-        Decision::Open => true,
-        Decision::Hold { cause: _, until: _ } => false,
-        Decision::OverQuota => false,
-    }
+    matches!(d, Decision::Open)
 }
 
 // The openings left under a threshold n, for the estimate after an opening: never below 0.
 pub fn openings_left(n: u64, estimate: u64) -> u64
     ensures { result ≡ n - estimate }
 {
-    if estimate < n { n - estimate } else { 0 }
+    n.saturating_sub(estimate)
 }
 
 // The answer to a request with this decision, with the openings left where it opens the row.

@@ -5,14 +5,14 @@
 pub mod answers;
 pub mod numbers;
 
-ghost use Rattle.std.specs.Prelude.{◌≡◌, ◌+◌, ◌≤◌, ◌<◌, ◌^◌, max, min};
+ghost use Rattle.std.specs.Prelude.{◌≡◌, ◌+◌, ◌≤◌, ◌<◌, ◌^◌};
 ghost use Rattle.rules.specs.Claims.{gap_end, closed_tick};
 ghost use Rattle.decision.specs.Numbers.{decide_from};
 
 use rules::{Cause, Decision, Setting};
 
 // What the decision looks at, read from the state turned to the request's tick.
-#[derive(Clone, Copy)]
+#[derive(Clone, Copy, Debug, PartialEq, Eq)]
 pub struct View {
     // The thread's requests in flight, over all banks, and its quota in the bank.
     pub flying: u64,
@@ -29,24 +29,13 @@ pub struct View {
     pub end: u64,
 }
 
+// Kept: 0 for none, since a stored tick is the word of the caller's head (C interface) and `gap_end` and `closed_tick` of rules/specs/Claims.antt say 0.
 // The first tick at which a gap after a stored tick is past, 0 for none.
 fn gap_end(gap: u64, stored: u64) -> u64
     requires { (gap ≤ 65535) × (stored ≤ 2 ^ 62) }
     ensures { (result ≡ gap_end gap stored) × (result ≤ 2 ^ 62 + 65535) }
 {
     if stored == 0 { 0 } else { stored - 1 + gap }
-}
-
-fn later(a: u64, b: u64) -> u64
-    ensures { result ≡ max a b }
-{
-    if a < b { b } else { a }
-}
-
-fn sooner(a: u64, b: u64) -> u64
-    ensures { result ≡ min a b }
-{
-    if a < b { a } else { b }
 }
 
 // The least tick from t on that bank, rank and row rules allow, by the closed form.
@@ -61,7 +50,7 @@ fn wait_tick(s: Setting, v: View, gaps: u64) -> u64
             return gaps;
         }
         if v.other < s.n {
-            return sooner(v.delay, v.end);
+            return v.delay.min(v.end);
         }
         return v.delay;
     }
@@ -78,7 +67,8 @@ pub fn decide(s: Setting, t: u64, v: View) -> Decision
     }
     let bank = gap_end(s.trc, v.bank);
     let rank = gap_end(s.tfaw, v.rank);
-    let until = wait_tick(s, v, later(t, later(bank, rank)));
+    let gaps = t.max(bank.max(rank));
+    let until = wait_tick(s, v, gaps);
     if t < bank {
         return Decision::Hold {
             cause: Cause::Bank,

@@ -5,10 +5,11 @@ ghost use Rattle.hash_rules.specs.Lanes.{joined};
 ghost use Rattle.hash.specs.Lanes.{four_seeds, spread, chosen, folded};
 
 // Four numbers in one word, the first in the lowest lane.
-fn join(a: u16, b: u16, c: u16, d: u16) -> u64
+// It rules out: two lanes exchanged, and a lane that is taken twice.
+pub fn join(a: u16, b: u16, c: u16, d: u16) -> u64
     ensures { result ≡ joined a b c d }
 {
-    a as u64 + 65536 * (b as u64) + 4294967296 * (c as u64) + 281474976710656 * (d as u64)
+    u64::from(a) + 65536 * u64::from(b) + 4294967296 * u64::from(c) + 281474976710656 * u64::from(d)
 }
 
 // The four seeds from place i on.

@@ -15,6 +15,7 @@ ghost use Rattle.rules.specs.Filter.{Within};
 ghost use Rattle.rules.specs.Samples.{house};
 ghost use Rattle.hash_rules.specs.Words.{TableFor};
 
+pub use crate::lanes::join;
 use crate::seeds::seed_places;
 use crate::table::table_places;
 

@@ -7,12 +7,13 @@ ghost use Rattle.rules.specs.Hash.{hash, places};
 use crate::lanes::{chosen, fold};
 
 // Function f of a row: the exclusive or of its seeds i for which bit i of the row is set, four seeds at a time.
+#[tactic(auto, using(crate::proofs::seeds::Laws::seeds_64))]
 fn hash(seeds: &[u16], f: usize, row: u16) -> usize
     requires { (seeds_in_range seeds.now ≡ true) × (f < 4) }
     ensures { result ≡ hash seeds.now f row }
 {
     let base = 16 * f;
-    let bits = row as u64;
+    let bits = u64::from(row);
     let a = chosen(seeds, base, bits);
     let b = chosen(seeds, base + 4, bits / 16);
     let c = chosen(seeds, base + 8, bits / 256);

@@ -11,7 +11,7 @@ use crate::low::low;
 pub fn table_places(row: u16) -> [usize; 4]
     ensures { result ≡ places house row }
 {
-    let bits = row as u64;
+    let bits = u64::from(row);
     let w = high(bits / 256) ^ low(bits % 256);
     [
         (w % 65536) as usize,

@@ -7,32 +7,28 @@ ghost use Rattle.rules.specs.Filter.{Within};
 ghost use Rattle.hash_rules.specs.Lanes.{joined};
 ghost use Rattle.hash_rows.specs.Rows.{hashed_rows};
 
+use hash::join;
 use setting::house_seeds::difference;
 
 // Four places in one word, the first in the lowest lane.
-fn join(p: [usize; 4]) -> u64
+fn word(p: [usize; 4]) -> u64
     requires { Within p }
     ensures { result ≡ joined (get_or p 0 0) (get_or p 1 0) (get_or p 2 0) (get_or p 3 0) }
 {
-    p[0] as u64
-        + 65536 * (p[1] as u64)
-        + 4294967296 * (p[2] as u64)
-        + 281474976710656 * (p[3] as u64)
+    join(p[0] as u16, p[1] as u16, p[2] as u16, p[3] as u16)
 }
 
 // Whether the table is used: only where the caller wants it and the seeds are the house seeds.
 fn by_table(table: u32, differing: u16) -> bool
     ensures { result ≡ true → differing ≡ 0 }
 {
-    if table != 0 {
-        return differing == 0;
-    }
-    false
+    table != 0 && differing == 0
 }
 
 // The exclusive or of the hashes of all rows; 0 where the seeds are not 64 numbers up to 1,023. Where table is not 0 and the seeds are the house
 // seeds, the table is used. The result is the same either way.
 // It rules out: a hash that leaves a row out, or that the table changes.
+// Kept: `table` is a number for yes or no, and 0 stands for a refusal, by the C interface (bench/hashing.c).
 pub fn hash_rows(seeds: &[u16], rows: &[u16], table: u32) -> u64
     ensures { result ≡ hashed_rows seeds.now rows.now }
 {
@@ -42,8 +38,8 @@ pub fn hash_rows(seeds: &[u16], rows: &[u16], table: u32) -> u64
     }
     let chosen = by_table(table, differing);
     let mut all: u64 = 0;
-    for i in 0..rows.len() {
-        all = all ^ join(hash::places(chosen, seeds, rows[i]));
+    for row in rows {
+        all ^= word(hash::places(chosen, seeds, *row));
     }
     all
 }

@@ -1,9 +1,10 @@
 -- The search of a history that was tested, place by place from the newest back.
-use Rattle.std.proofs.Common.{◌≡◌, ℕ, suc, ◌+◌, ◌-◌, ◌<◌, ◌≤◌, Bool, true, false, T, ◌≢◌, List, get_or, sym, refl, ap, ◌∙◌, inl, inr, arith}
+use Rattle.std.proofs.Common.{Some, None, eq-eqb, ne_eqb, ◌≡◌, ℕ, suc, ◌+◌, ◌-◌, ◌<◌, ◌≤◌, Bool, true, false, T, ◌≢◌, List, get_or, sym, refl, ap, ◌∙◌, inl, inr, arith}
 use native.Mathlib.Decide.{dec_lt, ℕ_discrete}
 use Rattle.rules.specs.Cells.{every}
 use Rattle.rules.specs.History.{back, not_after, never_rises, find_from, find}
-use Rattle.rules.proofs.Tests.{every_at}
+use Rattle.history.specs.Found.{place_found}
+use Rattle.rules.proofs.Tests.{every_at, holds}
 use Rattle.rules.proofs.Ring.{back_new, back_old, back_lt, back_back, falls, match_parts, match_make, Found, found, hit}
 use Rattle.rules.proofs.Memory.{not_after_lem}
 
@@ -113,7 +114,7 @@ module _ (h td p : ℕ) (ticks rows : List ℕ) (word t : ℕ) where
         or_further (hit h td p ticks rows word t ph i) (back h p i) (from (suc i) n)
         (λ m. e (match_parts td word t (get_or ticks (back h p i) 0) (get_or rows (back h p i) 0) m).same)
 
-    module _ (limit : ℕ) (el : limit ≡ t + 1 - td) (steady : T (never_rises h p ticks)) (past : T (every h (λ x. not_after t (get_or ticks x 0)))) where
+    module _ (limit : ℕ) (el : limit ≡ t + 1 - td) (steady : never_rises h p ticks ≡ true) (past : every h (λ x. not_after t (get_or ticks x 0)) ≡ true) where
       -- from a place on that is empty or too old, nothing matches
       search_end : (i n : ℕ) → i + n ≤ h → get_or ticks (back h p i) 0 ≤ limit → from i n ≡ h
       search_end i n ih old = go (found h td p ticks rows word t ph i n)
@@ -124,13 +125,13 @@ module _ (h td p : ℕ) (ticks rows : List ℕ) (word t : ℕ) where
               let k = f.0 in
               let z : i + (k - i) ≡ k = omega (arith, f.2) in
               let m = match_parts td word t (get_or ticks (back h p k) 0) (get_or rows (back h p k) 0) f.4 in
-              let g = falls h p ticks steady i (k - i) (omega (arith, f.2, f.3)) in
+              let g = falls h p ticks (holds (never_rises h p ticks) steady) i (k - i) (omega (arith, f.2, f.3)) in
               absurd (omega (arith, rw z at g))
 
       -- the place is not too old and has the row
       search_hit : (i n : ℕ) → i < h → limit < get_or ticks (back h p i) 0 → get_or rows (back h p i) 0 ≡ word → from i (suc n) ≡ back h p i
       search_hit i n ih new e =
-          let low : get_or ticks (back h p i) 0 ≤ t + 1 = not_after_lem t (get_or ticks (back h p i) 0) (every_at h (λ x. not_after t (get_or ticks x 0)) past (back h p i) (back_lt h p ph i ih)) in
+          let low : get_or ticks (back h p i) 0 ≤ t + 1 = not_after_lem t (get_or ticks (back h p i) 0) (every_at h (λ x. not_after t (get_or ticks x 0)) (holds (every h (λ x. not_after t (get_or ticks x 0))) past) (back h p i) (back_lt h p ph i ih)) in
           here_or (hit h td p ticks rows word t ph i) (back h p i) (from (suc i) n)
           (match_make td word t (get_or ticks (back h p i) 0) (get_or rows (back h p i) 0) (record { some = omega arith; same = e; past = omega arith; young = omega arith }))
 
@@ -158,7 +159,7 @@ module _ (h td p : ℕ) (ticks rows : List ℕ) (word t : ℕ) where
           let z : h - suc (back h p q) ≡ 0 = omega arith in
           passed w ∙ ap (from (suc (back h p q))) z
 
-      module _ (limit : ℕ) (el : limit ≡ t + 1 - td) (steady : T (never_rises h p ticks)) (past : T (every h (λ x. not_after t (get_or ticks x 0)))) where
+      module _ (limit : ℕ) (el : limit ≡ t + 1 - td) (steady : never_rises h p ticks ≡ true) (past : every h (λ x. not_after t (get_or ticks x 0)) ≡ true) where
         pub old_at : get_or ticks q 0 ≤ limit → further q ≡ h
         old_at old =
             let l : back h p q < h = back_lt h p ph q qh in
@@ -169,3 +170,13 @@ module _ (h td p : ℕ) (ticks rows : List ℕ) (word t : ℕ) where
             first
             ∙ search_hit limit el steady past (back h p q) (h - suc (back h p q)) (back_lt h p ph q qh) (rw here new) (rw here w)
             ∙ here
+
+-- ---- the result as an option
+
+pub found_none : (h place : ℕ) → place ≡ h → None ≡ place_found h place
+unfolding place_found
+found_none h place e = rw (eq-eqb place h e) refl
+
+pub found_some : (h q place : ℕ) → place ≡ q → q < h → Some q ≡ place_found h place
+unfolding place_found
+found_some h q place e l = rw (e, ne_eqb q h (omega arith)) refl

@@ -21,20 +21,12 @@ pub fn record(ticks: &mut [u64], rows: &mut [u32], place: usize, t: u64, word: u
     rows[place] = word;
 }
 
-fn clear_ticks(ticks: &mut [u64], h: usize)
-    requires { h ≤ length ticks.old }
-    ensures { ticks.new ≡ clear_cells (λ i. nat_lt i h) ticks.old }
-{
-    for i in 0..h {
-        ticks[i] = 0;
-    }
-}
-
+// Kept: h beside two slices, since lent buffers may be longer than the history and their rest stays, and C lends ticks and rows apart (C interface).
 // Empties the h places.
 pub fn clear(ticks: &mut [u64], rows: &mut [u32], h: usize)
     requires { (h ≤ length ticks.old) × (h ≤ length rows.old) }
     ensures { (ticks.new ≡ clear_cells (λ i. nat_lt i h) ticks.old) × (rows.new ≡ clear_cells (λ i. nat_lt i h) rows.old) }
 {
-    clear_ticks(ticks, h);
-    crate::clearing::clear32(rows, h);
+    ticks[..h].fill(0);
+    rows[..h].fill(0);
 }

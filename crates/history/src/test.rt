@@ -4,15 +4,13 @@ ghost use Rattle.rules.specs.Cells.{every};
 ghost use Rattle.rules.specs.History.{not_after, never_rises};
 
 use crate::cells::place_before;
+use crate::runs::never_falls;
 
 // Whether a stored tick is not after the last tick.
 pub fn is_not_after(stored: u64, last: u64) -> bool
     ensures { result ≡ not_after last stored }
 {
-    if stored == 0 {
-        return true;
-    }
-    stored - 1 <= last
+    stored == 0 || stored - 1 <= last
 }
 
 // Whether no stored tick is after the last tick, and none rises from the newest place back. One pass is enough: where none
@@ -21,6 +19,7 @@ pub fn is_not_after(stored: u64, last: u64) -> bool
 // The quick test of `never_falls` accepts every block of cells that do not fall and lie less than 2^58 ticks apart, however large
 // they are. The exact scan runs only in a block with a fall or with a gap of 2^58 or more. In a call that is answered the ticks are
 // below 2^62, so there are at most 16 such gaps and at most 16 blocks are scanned, whatever h is.
+// Kept: h beside the slice, as in `cells::clear`.
 pub fn steady(ticks: &[u64], h: usize, next: usize, last: u64) -> bool
     requires { (next < h) × (h ≤ length ticks.now) }
     ensures { result ≡ (every h (λ p. not_after last (slice_index ticks.now p)) && never_rises h next ticks.now) }
@@ -33,9 +32,9 @@ pub fn steady(ticks: &[u64], h: usize, next: usize, last: u64) -> bool
         if ticks[0] < ticks[h - 1] {
             return false;
         }
-        if !crate::runs::never_falls(ticks, 0, next - 1) {
+        if !never_falls(ticks, 0, next - 1) {
             return false;
         }
     }
-    crate::runs::never_falls(ticks, next, h - 1 - next)
+    never_falls(ticks, next, h - 1 - next)
 }

@@ -1,5 +1,5 @@
 -- What the checker hands back, against the steps of the log's verdict.
-use Rattle.std.specs.Prelude.{◌≡◌, List, Bool, true, false, ℕ, ◌+◌, ◌≤◌}
+use Rattle.std.specs.Prelude.{◌≡◌, List, ℕ, ◌+◌, ◌≤◌, Result, Ok, Err, IfOk}
 use Rattle.rules.specs.declared.Setting.{Setting}
 use Rattle.rules.specs.State.{State}
 use Rattle.rules.specs.Tested.{Sound}
@@ -8,7 +8,6 @@ use Rattle.log_format.specs.Verdict.{agrees, differs, Verdict, refused_after, ju
 use Rattle.tally.specs.declared.Progress.{Progress}
 use Rattle.tally.specs.declared.Report.{Report}
 use Rattle.tally.specs.declared.Report.TheVariants.{Refused, Agrees, Differs}
-use Rattle.tally.specs.declared.After.{After}
 
 -- the definition's progress
 abbrev pub progress_of : Progress → LogProgress
@@ -25,16 +24,21 @@ report_of (refused_after r blocks) = Refused (log_refusal_number r) blocks
 report_of (judged records opened agrees) = Agrees records opened
 report_of (judged records opened (differs block place)) = Differs records opened block place
 
--- what is handed back follows a step: the log is over with the step's report, or it goes on as the step does
-abbrev pub Follows : Bool → Report → Running → Step → Type 0
-Follows ended report x (over v) = (ended ≡ true) × (report ≡ report_of v)
-Follows ended report x (on y) = (ended ≡ false) × (y ≡ x)
+-- what a step is handed back as: the log goes on, or it is over with this report
+abbrev pub result_of : Step → Result Running Report
+result_of (over v) = Err (report_of v)
+result_of (on x) = Ok x
+
+-- what is handed back where the log goes on, with its model
+abbrev pub going : {A : Type 0} → (A → Running) → Result A Report → Result Running Report
+going f (Ok x) = Ok (f x)
+going f (Err d) = Err d
 
 -- so many records of a block judged at most, from the progress p on: the step of the definition, on a state that passes the tests of 6 and 7
-pub record Judged (s : Setting) (seeds : List ℕ) (p : Progress) (most : ℕ) (r : After) (st : State) (y : Step) : Type 0 where
-  pub follows : Follows r.over r.report (running r.progress s seeds st) y
+pub record Judged (s : Setting) (seeds : List ℕ) (p : Progress) (most : ℕ) (r : Result Progress Report) (st : State) (y : Step) : Type 0 where
+  pub follows : going (λ q. running q s seeds st) r ≡ result_of y
   pub sound : Sound s st
-  pub blocks : r.progress.blocks ≡ p.blocks
-  pub records : r.progress.records ≤ p.records + most
-  pub opened : r.progress.opened ≤ p.opened + most
-  pub last : r.progress.last ≤ p.last + most
+  pub blocks : IfOk r (λ q. q.blocks ≡ p.blocks)
+  pub records : IfOk r (λ q. q.records ≤ p.records + most)
+  pub opened : IfOk r (λ q. q.opened ≤ p.opened + most)
+  pub last : IfOk r (λ q. q.last ≤ p.last + most)

@@ -1,47 +1,46 @@
 // Block 0 of a log, known to be sound: its setting and seeds, with which the model is set up through the contract of set-up.
+ghost use Rattle.std.specs.Prelude.{IfOk};
 ghost use Rattle.rules.specs.Policy.{narrow};
 ghost use Rattle.log_format.specs.Verdict.{judge_start};
-ghost use Rattle.judge.specs.Blocks.{read_so_far, Carried, JudgedBlock};
+ghost use Rattle.sound.specs.Held.{Same};
+ghost use Rattle.judge.specs.Follow.{going};
+ghost use Rattle.judge.specs.Blocks.{read_in, Carried, JudgedBlock};
 
-use crate::reading::{Next, Reading};
+use crate::reading::Reading;
+use sound::buffers::Buffers;
 use tally::{Progress, Report};
 
-// Block 0: set-up with its setting and seeds, which also finds whether they are the house seeds; no later block tests that again.
+// Block 0: set-up with its setting and seeds, which also finds whether they are the house seeds; no later block tests that again. Ok: the log goes
+// on from here. Err: it is over with this report.
 pub fn judge_start(
     x: Reading,
-    counters: &mut [u16],
-    ticks: &mut [u64],
-    rows: &mut [u32],
-    threads: &mut [u32],
+    m: &mut Buffers<'_, u16>,
     block: &[u8; 512],
-) -> Next
-    ensures { JudgedBlock 0 result.over result.report (read_so_far result.reading counters.new ticks.new rows.new threads.new) (judge_start narrow (read_so_far x counters.old ticks.old rows.old threads.old) block.now) × Carried result.reading }
+) -> Result<Reading, Report>
+    ensures same { Same m.old m.new }
+    ensures judged { JudgedBlock 0 (going (λ y. read_in y m.new) result) (judge_start narrow (read_in x m.old) block.now) }
+    ensures carried { IfOk result Carried }
 {
-    let s = log_read::contents::setting(block);
+    let setting = log_read::contents::setting(block);
     let seeds = log_read::contents::seeds(block);
-    let h = x.head;
-    let q = throttle::setup(s, &seeds, h, counters, ticks, rows, threads);
-    let code = q.code;
-    let table = q.table;
-    let head = q.head;
     let progress = Progress {
         blocks: 1,
         records: 0,
         opened: 0,
         last: 0,
     };
-    Next {
-        over: code != 0,
-        report: Report::Refused {
-            number: code as u64,
-            blocks: 0,
-        },
-        reading: Reading {
+    let mut head = x.head;
+    match throttle::setup(setting, &seeds, &mut head, m) {
+        Ok(table) => Ok(Reading {
             progress,
-            setting: s,
+            setting,
             seeds,
             table,
             head,
-        },
+        }),
+        Err(refusal) => Err(Report::Refused {
+            number: u64::from(u32::from(refusal)),
+            blocks: 0,
+        }),
     }
 }

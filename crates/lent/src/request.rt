@@ -1,7 +1,8 @@
 // What a request does with the caller's memory before and after its filters, for the limits of any width: it tests what was lent, and stores the answer.
 // No function here knows the width of a filter counter.
-ghost use Rattle.std.specs.Prelude.{◌≡◌, ◌≢◌, [], ◌∷◌, ◌≤◌, ◌<◌, get_or};
+ghost use Rattle.std.specs.Prelude.{◌≡◌, ◌≢◌, [], ◌∷◌, ◌≤◌, ◌<◌, get_or, IfOk};
 ghost use Rattle.head.specs.Head.{moved_head};
+ghost use Rattle.refused.specs.Numbers.{code_of};
 ghost use Rattle.rules.specs.Answers.{refusal_number, answer_number, answer_wait, answer_left};
 ghost use Rattle.rules.specs.Setting.{setting_of};
 ghost use Rattle.rules.specs.State.{head_of, head_words};
@@ -12,18 +13,12 @@ ghost use Rattle.hash_rules.specs.Words.{TableFor};
 use crate::words::store_answered;
 use decision::numbers::out_words;
 use head::Head;
-use refusal::call_refusal;
+use refusal::{Lent, Named, call_refusal};
+use refused::Refusal;
 use rules::{Answer, Limits};
 use setting::house_seeds::difference;
 
-// The number of a refusal or 0, and whether the seeds are the house seeds.
-#[derive(Clone, Copy)]
-pub struct Checked {
-    pub code: u32,
-    pub table: bool,
-}
-
-// Refusals 1 to 9 and 16. Of counters, rows and thread counters it takes the lengths.
+// Refusals 1 to 9 and 16, and whether the seeds are the house seeds where it is not refused. Of counters, rows and thread counters it takes the lengths.
 pub fn tested(
     m: Limits,
     setting: &[u64; 10],
@@ -33,21 +28,24 @@ pub fn tested(
     ticks: &[u64],
     rows: usize,
     threads: usize,
-    tick: u64,
-    bank: u64,
-    thread: u64,
-) -> Checked
+    at: Named,
+) -> Result<bool, Refusal>
     requires { m.threshold ≤ limits02.threshold }
-    ensures { (result.code ≡ refusal_number (call_test m (setting_of setting.now) seeds.now (head_of head.now) counters ticks.now rows threads tick bank thread)) × TableFor result.table seeds.now }
+    ensures refusal { code_of result ≡ refusal_number (call_test m (setting_of setting.now) seeds.now (head_of head.now) counters ticks.now rows threads at.tick at.bank at.thread) }
+    ensures table { IfOk result (λ table. TableFor table seeds.now) }
 {
     let differing = difference(seeds);
-    let code = call_refusal(
-        m, setting, differing, seeds, head, counters, ticks, rows, threads, tick, bank, thread,
-    );
-    Checked {
-        code,
-        table: differing == 0,
-    }
+    let lent = Lent {
+        setting,
+        seeds,
+        differing,
+        head,
+        counters,
+        ticks,
+        rows,
+    };
+    call_refusal(m, lent, threads, at)?;
+    Ok(differing == 0)
 }
 
 // The stored tick of a bank, in the head's words.

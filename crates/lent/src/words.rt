@@ -4,11 +4,11 @@ ghost use Rattle.head.specs.Head.{moved_head};
 ghost use Rattle.rules.specs.State.{head_of, head_words};
 ghost use Rattle.rules.specs.Answers.{answer_number};
 
-use decision::numbers::answer_number;
 use head::Head;
 use rules::Answer;
 
 // The head that the 22 words of the caller hold.
+// Kept: no From between the head and its words, since neither type is of this crate (orphan rule).
 pub fn load_head(words: &[u64; 22]) -> Head
     ensures { result ≡ head_of words.now }
 {
@@ -52,9 +52,8 @@ pub fn store_answered(a: Answer, h: Head, words: &mut [u64; 22])
     requires { answer_number a ≢ 0 → h ≡ moved_head (head_of words.old) h.last }
     ensures { words.new ≡ head_words h }
 {
-    if answer_number(a) == 0 {
-        store_head(h, words);
-        return;
+    match a {
+        Answer::Opened { .. } => store_head(h, words),
+        Answer::Wait { .. } | Answer::Quota => store_clock(h, words),
     }
-    store_clock(h, words);
 }

@@ -1,1 +1,4 @@
 pub mod Zeros
+pub mod Every
+pub mod Parts
+pub mod Words

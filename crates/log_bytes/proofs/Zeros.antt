@@ -1,33 +1,34 @@
 -- The tests of a block's layout, test by test, as the code computes them.
-use mathlib.Core.Path.{◌≡◌}
-use mathlib.Core.List.{List}
+use mathlib.Core.Path.{◌≡◌, refl, sym, ap, ◌∙◌}
+use mathlib.Core.List.{List, [], ◌∷◌, ◌++◌}
 use mathlib.Core.Bool.{Bool, ◌&&◌}
-use Prim.Native.Nat.{ℕ, ◌+◌}
+use Prim.Native.Nat.{ℕ, zero, suc, ◌+◌, ◌≤◌, ◌<◌}
 use native.Mathlib.Omega.{arith}
 use native.Mathlib.Numerals.{add-one}
-use lib.Dec.{eqb, eqb→eq}
-use lib.ListN.{get_or}
-use borrow.Author.Tests.{eq-eqb}
+use lib.Bits.{bit_or}
+use lib.Dec.{eqb}
+use lib.ListN.{length, get_or, take, drop}
+use Rattle.std.specs.List.{fold}
+use Rattle.std.proofs.lemmas.Nat.{le_or_l}
+use Rattle.std.proofs.lemmas.Bool.{ne_eqb}
+use Rattle.std.proofs.lemmas.List.{get_or-drop, length-drop, take_more}
+use Rattle.std.proofs.lemmas.List.Sums.{fold-append}
 use Rattle.rules.specs.Cells.{every}
-use Rattle.rules.proofs.Tests.{and_i, and_l, and_r, holds, same_test}
 
--- a sum is zero exactly where both parts are
-sum_zero : (e x : ℕ) → eqb (e + x) 0 ≡ (eqb e 0 && eqb x 0)
-sum_zero e x =
-    same_test (eqb (e + x) 0) (eqb e 0 && eqb x 0)
-    (λ t.
-    let z : e + x ≡ 0 = eqb→eq (e + x) 0 t in
-    and_i (eqb e 0) (eqb x 0) (holds (eqb e 0) (eq-eqb e 0 (omega arith))) (holds (eqb x 0) (eq-eqb x 0 (omega arith))))
-    (λ t.
-    let z : e ≡ 0 = eqb→eq e 0 (and_l (eqb e 0) (eqb x 0) t) in
-    let k : x ≡ 0 = eqb→eq x 0 (and_r (eqb e 0) (eqb x 0) t) in
-    holds (eqb (e + x) 0) (eq-eqb (e + x) 0 (omega arith)))
+-- no bit of two numbers is set exactly where both are zero
+or_zero : (e x : ℕ) → eqb (bit_or e x) 0 ≡ (eqb e 0 && eqb x 0)
+or_zero zero x = refl
+or_zero (suc e) x =
+    let l : suc e ≤ bit_or (suc e) x = le_or_l (suc e) x in
+    ne_eqb (bit_or (suc e) x) 0 (λ z. omega arith) ∙ ap (λ (t : Bool). t && eqb x 0) (sym (ne_eqb (suc e) 0 (λ z. omega arith)))
 
--- the sum of the i bytes from a place on is zero exactly where each is; one byte more
-pub zeros_more : (s : List ℕ) (from i e x : ℕ) → x ≡ get_or s (from + i) 0 → eqb e 0 ≡ every i (λ j. eqb (get_or s (from + j) 0) 0)
-    → eqb (e + x) 0 ≡ every (i + 1) (λ j. eqb (get_or s (from + j) 0) 0)
-zeros_more s from i e x ex h = rw (add-one i, ← h, ex) (sum_zero e (get_or s (from + i) 0))
-
--- one number more
-pub every_more : (p : ℕ → Bool) (i : ℕ) (a b c : Bool) → a ≡ every i p → b ≡ p i → c ≡ (a && b) → c ≡ every (i + 1) p
-every_more p i a b c ea eb ec = rw (add-one i, ← ea, ← eb) ec
+-- no bit of the n bytes from a place on is set exactly where each is zero
+pub zeros_fold : (s : List ℕ) (from n : ℕ) → from + n ≤ length s
+    → eqb (fold (λ a b. bit_or a b) 0 (take n (drop from s))) 0 ≡ every n (λ j. eqb (get_or s (from + j) 0) 0)
+zeros_fold s from zero h = refl
+zeros_fold s from (suc n) h =
+    let l : n < length (drop from s) = omega (arith, length-drop from s) in
+    let e : take (n + 1) (drop from s) ≡ take n (drop from s) ++ get_or (drop from s) n 0 ∷ [] = take_more (drop from s) n 0 l in
+    rw (← add-one n, e, fold-append (λ a b. bit_or a b) 0 (take n (drop from s)) (get_or (drop from s) n 0 ∷ []), get_or-drop from s n 0)
+    (or_zero (fold (λ a b. bit_or a b) 0 (take n (drop from s))) (get_or s (from + n) 0)
+    ∙ ap (λ (t : Bool). t && eqb (get_or s (from + n) 0) 0) (zeros_fold s from n (omega arith)))

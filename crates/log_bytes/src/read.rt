@@ -1,19 +1,15 @@
-// Little-endian numbers, read from a block. A number is read in halves, so that the compiler joins the bytes into one load.
+// Little-endian numbers, read from a block.
+// Kept: a function for each size. The library has `from_le_bytes` on each type of number and in no trait, so one generic function would need a trait of our
+// own with an impl for each, which is no plainer.
 ghost use Rattle.std.specs.Prelude.{◌≡◌, ◌+◌, ◌≤◌, ◌<◌, get_or};
 ghost use Rattle.log_format.specs.Bytes.{little};
-
-fn wide(b: u8) -> u64
-    ensures { (result ≡ b) × (result < 256) }
-{
-    b as u64
-}
 
 // The byte at a place.
 pub fn byte(block: &[u8; 512], at: usize) -> u64
     requires { at < 512 }
     ensures { (result ≡ get_or block.now at 0) × (result < 256) }
 {
-    wide(block[at])
+    u64::from(block[at])
 }
 
 // The number of 16 bits at a place.
@@ -21,7 +17,7 @@ pub fn word16(block: &[u8; 512], at: usize) -> u64
     requires { at + 2 ≤ 512 }
     ensures { (result ≡ little block.now at 2) × (result < 65536) }
 {
-    byte(block, at) + 256 * byte(block, at + 1)
+    u64::from(u16::from_le_bytes(block[at..at + 2].try_into().unwrap()))
 }
 
 // The number of 32 bits at a place.
@@ -29,7 +25,7 @@ pub fn word32(block: &[u8; 512], at: usize) -> u64
     requires { at + 4 ≤ 512 }
     ensures { (result ≡ little block.now at 4) × (result < 4294967296) }
 {
-    word16(block, at) + 65536 * word16(block, at + 2)
+    u64::from(u32::from_le_bytes(block[at..at + 4].try_into().unwrap()))
 }
 
 // The number of 64 bits at a place.
@@ -37,5 +33,5 @@ pub fn word64(block: &[u8; 512], at: usize) -> u64
     requires { at + 8 ≤ 512 }
     ensures { result ≡ little block.now at 8 }
 {
-    word32(block, at) + 4294967296 * word32(block, at + 4)
+    u64::from_le_bytes(block[at..at + 8].try_into().unwrap())
 }

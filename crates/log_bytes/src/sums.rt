@@ -3,10 +3,9 @@ ghost use Rattle.std.specs.Prelude.{◌≡◌, ◌+◌, ◌*◌, ◌≤◌, ◌<
 ghost use Rattle.log_format.specs.Blocks.{sum_to, weighted_to, checked};
 
 use crate::read::word16;
-use crate::tests::{and, wide};
 
 // The two sums of bytes 0 to 507, not yet reduced.
-#[derive(Clone, Copy)]
+#[derive(Clone, Copy, Debug, PartialEq, Eq)]
 pub struct Sums {
     pub plain: u32,
     pub weighted: u32,
@@ -26,8 +25,8 @@ pub fn add_up(block: &[u8; 512]) -> Sums
 {
     let mut plain: u32 = 0;
     let mut weighted: u32 = 0;
-    for i in 0..508 {
-        let b = wide(block[i]);
+    for (i, b) in block[..508].iter().enumerate() {
+        let b = u32::from(*b);
         plain += b;
         weighted += weight(i as u32, b);
     }
@@ -39,7 +38,7 @@ pub fn is_checked(block: &[u8; 512]) -> bool
     ensures { result ≡ checked block.now }
 {
     let s = add_up(block);
-    let plain = (s.plain % 65521) as u64;
-    let weighted = (s.weighted % 65521) as u64;
-    and(word16(block, 508) == plain, word16(block, 510) == weighted)
+    let plain = u64::from(s.plain % 65521);
+    let weighted = u64::from(s.weighted % 65521);
+    (word16(block, 508) == plain) & (word16(block, 510) == weighted)
 }

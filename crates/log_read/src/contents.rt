@@ -36,12 +36,13 @@ pub fn seeds(block: &[u8; 512]) -> [u16; 64]
     ensures { result ≡ seeds_in block.now }
 {
     let mut out = [0u16; 64];
-    for i in 0..64 {
-        out[i] = word16(block, 44 + 2 * i) as u16;
+    for (i, seed) in out.iter_mut().enumerate() {
+        *seed = word16(block, 44 + 2 * i) as u16;
     }
     out
 }
 
+// Kept: kind and answer of an `Entry` stay numbers: the encoder's call takes any (C interface), and `record_laid_out` says which a block may have.
 // Record k, counted from 0.
 pub fn entry_at(block: &[u8; 512], k: usize) -> Entry
     requires { k < 20 }

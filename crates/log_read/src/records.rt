@@ -4,7 +4,7 @@ ghost use Rattle.rules.specs.Cells.{every};
 ghost use Rattle.log_format.specs.Blocks.{record_laid_out};
 
 use log_bytes::read::byte;
-use log_bytes::tests::{and, are_zero};
+use log_bytes::tests::are_zero;
 
 // Record k: its kind, its answer and two zeros.
 fn is_record(block: &[u8; 512], k: usize) -> bool
@@ -12,18 +12,14 @@ fn is_record(block: &[u8; 512], k: usize) -> bool
     ensures { result ≡ record_laid_out block.now k }
 {
     let at = 8 + 24 * k;
-    let named = and(byte(block, at + 20) <= 1, byte(block, at + 21) <= 4);
-    and(named, are_zero(block, at + 22, 2))
+    (byte(block, at + 20) <= 1) & (byte(block, at + 21) <= 4) & are_zero(block, at + 22, 2)
 }
 
+// Kept: n, since the records are bytes of a block and no slice.
 // The first n records.
 pub fn are_records(block: &[u8; 512], n: usize) -> bool
     requires { n ≤ 20 }
     ensures { result ≡ every n (λ k. record_laid_out block.now k) }
 {
-    let mut ok = true;
-    for k in 0..n {
-        ok = and(ok, is_record(block, k));
-    }
-    ok
+    (0..n).all(|k| is_record(block, k))
 }

@@ -8,9 +8,5 @@ pub fn block_at(bytes: &[u8], b: usize) -> [u8; 512]
     ensures { result ≡ block_at bytes.now b }
 {
     let at = 512 * b;
-    let mut block = [0u8; 512];
-    for i in 0..512 {
-        block[i] = bytes[at + i];
-    }
-    block
+    bytes[at..at + 512].try_into().unwrap()
 }

@@ -1,5 +1,6 @@
 // The encoder, for C and for Rattle alike: block 0 from a setting and seeds, records put into a block, the block sealed.
 // A call that is refused gives a number and leaves the block as it was.
+// Kept: the answer is a number and not a Result, since C has these calls by the same names and contracts (`log_c`): the C interface.
 ghost use Rattle.std.specs.Prelude.{◌≡◌};
 ghost use Rattle.log_format.specs.Encode.{written, record_written, seal_written, start_written};
 
@@ -7,7 +8,6 @@ use crate::fits::{record_fits, setting_fits};
 use crate::frame::frame;
 use crate::start::{put_mark, put_seeds, put_setting};
 use crate::write::put_record;
-use log_bytes::tests::and;
 use log_format::Entry;
 use setting::words::is_known;
 
@@ -50,8 +50,8 @@ pub fn throttle_log_record(
 pub fn throttle_log_seal(block: &mut [u8; 512], number: u64, count: u64) -> u32
     ensures { written result block.new ≡ seal_written block.old number count }
 {
-    let numbered = and(1 <= number, number <= 4294967295);
-    if !and(numbered, and(1 <= count, count <= 20)) {
+    let fits = (1..=4294967295).contains(&number) & (1..=20).contains(&count);
+    if !fits {
         return 13;
     }
     frame(block, number, count, 8 + 24 * (count as usize));
@@ -66,8 +66,8 @@ pub fn throttle_log_start(setting: &[u64; 10], seeds: &[u16], block: &mut [u8; 5
     ensures { written result block.new ≡ start_written block.old setting.now seeds.now }
 {
     let mark = setting[9];
-    let fits = and(setting_fits(setting), is_known(mark));
-    if !and(fits, seeds.len() == 64) {
+    let fits = setting_fits(setting) & is_known(mark) & (seeds.len() == 64);
+    if !fits {
         return 1;
     }
     put_setting(block, setting);

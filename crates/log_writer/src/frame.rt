@@ -19,9 +19,7 @@ fn pad(block: &mut [u8; 512], from: usize)
     requires { from ≤ 508 }
     ensures { block.new ≡ padded block.old from }
 {
-    for i in from..508 {
-        block[i] = 0;
-    }
+    block[from..508].fill(0);
 }
 
 // The two sums.
@@ -29,8 +27,8 @@ fn put_sums(block: &mut [u8; 512])
     ensures { block.new ≡ summed block.old }
 {
     let s = add_up(&*block);
-    put(block, 508, 2, (s.plain % 65521) as u64);
-    put(block, 510, 2, (s.weighted % 65521) as u64);
+    put(block, 508, 2, u64::from(s.plain % 65521));
+    put(block, 510, 2, u64::from(s.weighted % 65521));
 }
 
 // A block whose body ends at a place.

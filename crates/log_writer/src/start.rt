@@ -6,19 +6,16 @@ ghost use Rattle.log_format.specs.Encode.{numbers_bytes};
 
 use log_bytes::store::put;
 
+// Kept: the two loops below differ in the numbers' type, and one generic function would carry the place, the width, the count and what `into` gives in its
+// contract, which is no plainer.
+
 // The nine numbers of a setting before its mark, four bytes each.
 pub fn put_setting(block: &mut [u8; 512], setting: &[u64; 10])
     ensures { block.new ≡ sets block.old 8 (numbers_bytes 4 setting.now 0 9) }
 {
-    for i in 0..9 {
-        put(block, 8 + 4 * i, 4, setting[i]);
+    for (i, number) in setting[..9].iter().enumerate() {
+        put(block, 8 + 4 * i, 4, *number);
     }
-}
-
-fn wide(x: u16) -> u64
-    ensures { result ≡ x }
-{
-    x as u64
 }
 
 // The seeds, two bytes each.
@@ -26,8 +23,8 @@ pub fn put_seeds(block: &mut [u8; 512], seeds: &[u16])
     requires { length seeds.now ≡ 64 }
     ensures { block.new ≡ sets block.old 44 (numbers_bytes 2 seeds.now 0 64) }
 {
-    for i in 0..64 {
-        put(block, 44 + 2 * i, 2, wide(seeds[i]));
+    for (i, seed) in seeds.iter().enumerate() {
+        put(block, 44 + 2 * i, 2, u64::from(*seed));
     }
 }
 

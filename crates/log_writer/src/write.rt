@@ -14,7 +14,7 @@ pub fn put_record(block: &mut [u8; 512], k: usize, e: Entry)
     let at = 8 + 24 * k;
     put(block, at, 8, e.tick);
     put(block, at + 8, 8, e.wait);
-    put(block, at + 16, 2, e.row as u64);
+    put(block, at + 16, 2, u64::from(e.row));
     put(block, at + 18, 1, e.bank);
     put(block, at + 19, 1, e.thread);
     put(block, at + 20, 1, e.kind);

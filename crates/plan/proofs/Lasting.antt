@@ -6,7 +6,8 @@ use native.Mathlib.Omega.{arith}
 use native.Mathlib.Decide.{ℕ_discrete}
 use Rattle.rules.specs.declared.Setting.{Setting}
 use Rattle.rules.specs.declared.Limits.{Limits}
-use Rattle.plan_rules.specs.declared.delays.Plan.TheVariants.{Between}
+use Rattle.std.specs.Prelude.{Ok}
+use Rattle.plan_rules.specs.declared.delays.Delays.{Delays}
 use Rattle.plan_rules.specs.delays.Delays.{with_threshold, AcceptedDelay, Ends, Says}
 use Rattle.plan_rules.specs.delays.Answer.{delays_of}
 use Rattle.plan.specs.Plan.{has_delay}
@@ -24,7 +25,7 @@ one_less_lem m s n low e f more h k = go (ℕ_discrete more n)
     go (no z) = f more (omega arith) k
 
 -- the least delay of an answer is accepted
-pub least_accepted : (m : Limits) (s : Setting) (a b : ℕ) → delays_of m s ≡ Between a b → AcceptedDelay m s a
-least_accepted m s a b e =
-    let x : Ends m s a b = subst (Says m s) e (right m s) in
+pub least_accepted : (m : Limits) (s : Setting) (d : Delays) → delays_of m s ≡ Ok d → AcceptedDelay m s d.least
+least_accepted m s d e =
+    let x : Ends m s d.least d.greatest = subst (Says m s) e (right m s) in
     x.least_accepted

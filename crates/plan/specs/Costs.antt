@@ -5,14 +5,15 @@ use Rattle.rules.specs.Setting.{history_length, row_bound}
 use Rattle.rules.specs.State.{counters_used, threads_used}
 use Rattle.rules.specs.Policy.{limits01, limits02}
 use Rattle.plan.specs.Served.{Served}
-use Rattle.plan.specs.declared.costs.Width.{Width}
+use Rattle.std.proofs.Common.{lit≤}
+use Rattle.plan.specs.declared.width.Width.{Width}
 use Rattle.plan.specs.declared.costs.Cost.{Cost}
 
 -- "The history may reach 32,768 places, N may reach 2^20, and filter counters become 32 bits wide" (document 02, a); or the limits of document 01, with
 -- its counters of 16 bits
 abbrev pub width_of : Bool → Width
-width_of true = record { limits = limits02; counter = 4 }
-width_of false = record { limits = limits01; counter = 2 }
+width_of true = record { limits = limits02; counter = 4; served = ((lit≤ tt, lit≤ tt), lit≤ tt) }
+width_of false = record { limits = limits01; counter = 2; served = ((lit≤ tt, lit≤ tt), lit≤ tt) }
 
 -- the limits that the code serves, and the bytes of a counter
 abbrev pub ServedWidth : Width → Type 0

@@ -4,17 +4,10 @@ ghost use Rattle.rules.specs.Setting.{row_bound};
 ghost use Rattle.plan_rules.specs.delays.Delays.{with_delay, AcceptedDelay};
 ghost use Rattle.plan.specs.Costs.{ServedWidth, width_of, cost_of};
 
-// A width of the filter counters.
-#[derive(Clone, Copy)]
-pub struct Width {
-    // The limits of its calls.
-    pub limits: rules::Limits,
-    // The bytes of a counter.
-    pub counter: u64,
-}
+pub use crate::width::Width;
 
 // What a setting costs.
-#[derive(Clone, Copy)]
+#[derive(Clone, Copy, Debug, PartialEq, Eq)]
 pub struct Cost {
     // H, the places of the history buffer.
     pub history: u64,
@@ -29,14 +22,15 @@ pub fn width_of(wide: bool) -> Width
     ensures { (result ≡ width_of wide) × ServedWidth result }
 {
     if wide {
-        return Width {
+        Width {
             limits: setting::wide_limits(),
             counter: 4,
-        };
-    }
-    Width {
-        limits: setting::narrow_limits(),
-        counter: 2,
+        }
+    } else {
+        Width {
+            limits: setting::narrow_limits(),
+            counter: 2,
+        }
     }
 }
 
@@ -59,7 +53,7 @@ fn bytes(counter: u64, banks: u64, threads: u64, history: u64) -> u64
 
 // What the setting costs with a delay that is accepted at this width: H, B, and the bytes of the four buffers.
 pub fn costs(width: Width, s: rules::Setting, td: u64) -> Cost
-    requires { ServedWidth width × AcceptedDelay width.limits s td }
+    requires { AcceptedDelay width.limits s td }
     ensures { result ≡ cost_of width.counter (with_delay s td) }
 {
     let history = setting::history_length(crate::interval::with_delay(s, td)) as u64;

@@ -1,17 +1,12 @@
 // Where the delays tD that a setting is accepted with begin and end: the smallest with B at most L, the greatest that the epoch and the history allow, and
 // those of them that the profile which the setting names accepts. The definitions are those of `plan_rules::delays`; specs/Served.antt has the limits that
 // are served.
-ghost use Rattle.std.specs.Prelude.{◌≡◌, ◌-◌, ◌*◌, ◌^◌, ◌≤◌, ◌<◌, min};
+ghost use Rattle.std.specs.Prelude.{◌≡◌, ◌-◌, ◌*◌, ◌^◌, ◌≤◌, ◌<◌};
 ghost use Rattle.plan_rules.specs.delays.Answer.{smallest_delay, least_delay, greatest_delay, delays_within};
 ghost use Rattle.plan.specs.Served.{Served};
 
-use plan_rules::delays::Plan;
-
-fn smaller(a: u64, b: u64) -> u64
-    ensures { result ≡ min a b }
-{
-    if a < b { a } else { b }
-}
+use plan_rules::delays::Delays;
+use refused::Refusal;
 
 // The smallest delay with B at most L.
 pub fn smallest_delay(s: rules::Setting) -> u64
@@ -27,24 +22,26 @@ pub fn greatest_delay(m: rules::Limits, s: rules::Setting) -> u64
     requires { Served m × (s.tfaw ≤ 65535) }
     ensures { result ≡ greatest_delay m s }
 {
-    smaller(s.w / 2, m.history / 4 * s.tfaw)
+    (s.w / 2).min(m.history / 4 * s.tfaw)
 }
 
-// The delays that the setting's profile accepts of those from least to greatest, or 16 where it accepts none of them.
-pub fn delays_within(m: rules::Limits, s: rules::Setting, least: u64, greatest: u64) -> Plan
+// The delays that the setting's profile accepts of those from least to greatest, or refusal 16 where it accepts none of them.
+pub fn delays_within(
+    m: rules::Limits,
+    s: rules::Setting,
+    least: u64,
+    greatest: u64,
+) -> Result<Delays, Refusal>
     requires { (s.tfaw ≤ 65535) × (least ≡ least_delay s) × (greatest ≡ greatest_delay m s) }
     ensures { result ≡ delays_within m s }
 {
     let own = setting::words::profile(s.profile);
-    let last = smaller(greatest, own.history / 4 * s.tfaw);
-    if own.banks < s.banks {
-        return Plan::Nothing { refusal: 16 };
+    let last = greatest.min(own.history / 4 * s.tfaw);
+    if own.banks < s.banks || last < least {
+        return Err(Refusal::AboveProfile);
     }
-    if last < least {
-        return Plan::Nothing { refusal: 16 };
-    }
-    Plan::Between {
+    Ok(Delays {
         least,
         greatest: last,
-    }
+    })
 }

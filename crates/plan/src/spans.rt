@@ -1,30 +1,18 @@
 // Spans of every length (document 02, m): the most activations of a row in x successive ticks under a setting, or the refusal that it gets. The definitions
 // that the contracts cite are in `plan_rules::spans` and in the crate `rules`, with the statements of what they mean.
 ghost use Rattle.std.specs.Prelude.{◌≡◌, ◌≤◌};
-ghost use Rattle.rules.specs.Cells.{ceil_div};
 ghost use Rattle.rules.specs.Claims.{free_most, span_bound};
 ghost use Rattle.plan_rules.specs.spans.Spans.{Room, span_of};
 
-use plan_rules::spans::Span;
-
-// a/b, rounded up.
-fn ceil_div(a: u64, b: u64) -> u64
-    requires { 1 ≤ b }
-    ensures { result ≡ ceil_div a b }
-{
-    if a == 0 {
-        return 0;
-    }
-    (a - 1) / b + 1
-}
+use refused::Refusal;
 
 // F, the most activations that the row rule lets pass without a delay: at most m epochs meet the span.
 fn free_most(s: rules::Setting, x: u64) -> u64
     requires { Room s × (1 ≤ x) }
     ensures { result ≡ free_most s x }
 {
-    let m = ceil_div(x - 1, s.w / 2) + 1;
-    s.n * ceil_div(m, 2)
+    let m = (x - 1).div_ceil(s.w / 2) + 1;
+    s.n * m.div_ceil(2)
 }
 
 // The bound for x ticks.
@@ -41,17 +29,12 @@ fn span_bound(s: rules::Setting, x: u64) -> u64
 }
 
 // The bound for x ticks, or the refusal of the setting at the limits of the calls with 32-bit counters.
-pub fn span(s: rules::Setting, x: u64) -> Span
+pub fn span(s: rules::Setting, x: u64) -> Result<u64, Refusal>
     ensures { result ≡ span_of s x }
 {
     if x == 0 {
-        return Span::Refused { refusal: 1 };
+        return Err(Refusal::OutOfRange);
     }
-    let refusal = crate::interval::delay_refusal(setting::wide_limits(), s, s.td);
-    if refusal != 0 {
-        return Span::Refused { refusal };
-    }
-    Span::Most {
-        times: span_bound(s, x),
-    }
+    crate::interval::delay_refusal(setting::wide_limits(), s, s.td)?;
+    Ok(span_bound(s, x))
 }

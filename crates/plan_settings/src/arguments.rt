@@ -1,19 +1,12 @@
 // The command line of the program plan_settings: its words as numbers, and its options.
 ghost use Rattle.std.specs.Prelude.{◌≡◌, ◌+◌, ◌^◌, ◌≤◌};
-ghost use Rattle.plan_settings.specs.Decimal.{number_of, wrong as Decimal·wrong};
+ghost use Rattle.plan_settings.specs.Decimal.{number_of};
 ghost use Rattle.plan_settings.specs.Options.{words_of};
 
 use std::env::{Env, FillError};
 
-// A number, or no number where ok is false.
-#[derive(Clone, Copy)]
-pub struct Number {
-    pub ok: bool,
-    pub value: u64,
-}
-
 // The options before the first number.
-#[derive(Clone, Copy)]
+#[derive(Clone, Copy, Debug, PartialEq, Eq)]
 pub struct Options {
     // How many words they are.
     pub words: usize,
@@ -25,61 +18,39 @@ pub struct Options {
     pub spans: bool,
 }
 
-fn wrong() -> Number
-    ensures { result ≡ Decimal·wrong }
-{
-    Number {
-        ok: false,
-        value: 0,
-    }
-}
-
-fn wide(x: u8) -> u64
-    ensures { result ≡ x }
-{
-    x as u64
-}
-
 // The number up to `most` that the word stands for.
-#[tactic(auto, using(crate::proofs::arguments::Reading::high_is_wrong))]
-fn read_word(word: &[u8], most: u64) -> Number
+// Kept: no plainer. `str::parse` takes text and a sign, and lets numbers above `most` pass, so three more tests would stand here.
+fn read_word(word: &[u8], most: u64) -> Option<u64>
     requires { most ≤ 2 ^ 60 }
     ensures { result ≡ number_of most word.now }
 {
-    if word.len() == 0 {
-        return wrong();
+    if word.is_empty() {
+        return None;
     }
     let mut v: u64 = 0;
-    let mut i: usize = 0;
-    while i < word.len() {
-        let code = wide(word[i]);
-        if code < 48 {
-            return wrong();
+    for &code in word {
+        if code < b'0' || code > b'9' {
+            return None;
         }
-        if code > 57 {
-            return wrong();
-        }
-        v = 10 * v + (code - 48);
+        v = 10 * v + u64::from(code - b'0');
         if v > most {
-            return wrong();
+            return None;
         }
-        i += 1;
     }
-    Number { ok: true, value: v }
+    Some(v)
 }
 
 // The number up to `most` of argument i. A word of more than 32 bytes, or none at that place, is no number.
-pub fn argument(rt: &HostRuntime, i: usize, most: u64) -> Number
+pub fn argument(rt: &HostRuntime, i: usize, most: u64) -> Option<u64>
     requires { most ≤ 2 ^ 60 }
 {
     let mut word = [0u8; 32];
-    match rt.arg(i, &mut word) {
-        Ok(n) => read_word(&word[..n], most),
-        Err(_) => wrong(),
-    }
+    let n = rt.arg(i, &mut word).ok()?;
+    read_word(&word[..n], most)
 }
 
 // How many arguments there are, the program's name among them.
+// Kept: a rule of the project, fixed memory. `env::args` allocates each word.
 pub fn argument_count(rt: &HostRuntime) -> usize {
     for i in 0..usize::MAX {
         if let Err(FillError::NotPresent) = rt.arg(i, &mut []) {
@@ -98,23 +69,16 @@ fn is_word(rt: &HostRuntime, i: usize, word: &[u8]) -> bool {
     }
 }
 
-// How many words an option is that is given or not.
-fn words(given: bool) -> usize
-    ensures { (result ≡ words_of given) × (result ≤ 1) }
-{
-    if given { 1 } else { 0 }
-}
-
 // The options of the command line, --wide before --small before --spans. It rules out a word that is taken for an option and sets none.
 pub fn read_options(rt: &HostRuntime) -> Options
     ensures { (result.words ≡ words_of result.wide + words_of result.small + words_of result.spans) × (result.words ≤ 3) }
 {
     let wide = is_word(rt, 1, b"--wide");
-    let first = words(wide);
+    let first = usize::from(wide);
     let small = is_word(rt, 1 + first, b"--small");
-    let second = first + words(small);
+    let second = first + usize::from(small);
     let spans = is_word(rt, 1 + second, b"--spans");
-    let third = second + words(spans);
+    let third = second + usize::from(spans);
     Options {
         words: third,
         wide,

@@ -12,24 +12,22 @@ mod table;
 mod text;
 
 ghost use Rattle.std.specs.Prelude.{◌≤◌};
-ghost use Rattle.plan.specs.Costs.{ServedWidth};
 
 use crate::arguments::{argument_count, read_options};
+use crate::faults::{Argument, Fault, in_range, report};
 use crate::fields::{field, read_timing, setting_of, threshold};
 use plan::costs::Width;
 use std::io;
 
 // The table of delays, in which the delay of the setting plays no part.
-fn print_delays(rt: &HostRuntime, s: rules::Setting, width: Width, is_one: bool) -> io::Result<()>
-    requires { ServedWidth width }
-{
-    if !crate::faults::are_in_range(rt, width.limits, s)? {
-        return Ok(());
+fn print_delays(rt: &HostRuntime, s: rules::Setting, width: Width, is_one: bool) -> io::Result<()> {
+    if let Err(fault) = in_range(width.limits, s) {
+        return report(rt, fault);
     }
     if is_one {
-        crate::table::print_one(rt.stdout(), width, s)
+        crate::table::print_one(rt, width, s)
     } else {
-        crate::table::print_table(rt.stdout(), width, s)
+        crate::table::print_table(rt, width, s)
     }
 }
 
@@ -41,42 +39,36 @@ fn read_delays(
     mark: u64,
     is_one: bool,
 ) -> io::Result<()>
-    requires { (options ≤ 3) × ServedWidth width }
+    requires { options ≤ 3 }
 {
-    let t = read_timing(rt, options)?;
-    let n = threshold(rt, options, is_one)?;
-    if t.ok && n.ok {
-        print_delays(rt, setting_of(t, n.value, 1, mark), width, is_one)?;
+    let timing = read_timing(rt, options)?;
+    let threshold = threshold(rt, options, is_one)?;
+    if let (Some(t), Some(n)) = (timing, threshold) {
+        print_delays(rt, setting_of(t, n, 1, mark), width, is_one)?;
     }
     Ok(())
 }
 
 // The table of spans, for the X from argument `first` to the last of `count`.
 fn print_spans(rt: &HostRuntime, s: rules::Setting, first: usize, count: usize) -> io::Result<()> {
-    if !crate::faults::are_in_range(rt, setting::wide_limits(), s)? {
-        return Ok(());
+    if let Err(fault) = crate::span_table::check_spans(rt, s, first, count) {
+        return report(rt, fault);
     }
-    if !crate::faults::is_within(rt, 6, s.td, 536870912)? {
-        return Ok(());
-    }
-    if crate::span_table::are_spans(rt, first, count)? {
-        crate::span_table::print_spans(rt, s, first, count)?;
-    }
-    Ok(())
+    crate::span_table::print_spans(rt, s, first, count)
 }
 
 // The spans, of the profile with this mark, from the words behind the options.
 fn read_spans(rt: &HostRuntime, options: usize, mark: u64, count: usize) -> io::Result<()>
     requires { options ≤ 3 }
 {
-    let t = read_timing(rt, options)?;
-    let n = field(rt, options, 5)?;
-    let td = field(rt, options, 6)?;
-    if t.ok && n.ok && td.ok {
+    let timing = read_timing(rt, options)?;
+    let threshold = field(rt, options, Argument::N)?;
+    let delay = field(rt, options, Argument::Td)?;
+    if let (Some(t), Some(n), Some(td)) = (timing, threshold, delay) {
         print_spans(
             rt,
-            setting_of(t, n.value, td.value, mark),
-            options + 7,
+            setting_of(t, n, td, mark),
+            options + Argument::X.place(),
             count,
         )?;
     }
@@ -85,11 +77,11 @@ fn read_spans(rt: &HostRuntime, options: usize, mark: u64, count: usize) -> io::
 
 // The count of the arguments is tested; options is that of the words before the first number.
 fn start_delays(rt: &HostRuntime, options: usize, width: Width, mark: u64) -> io::Result<()>
-    requires { (options ≤ 3) × ServedWidth width }
+    requires { options ≤ 3 }
 {
     let count = argument_count(rt);
     if count < 5 + options || count > 6 + options {
-        return crate::faults::report_count(rt);
+        return report(rt, Fault::Count);
     }
     read_delays(rt, options, width, mark, count == 6 + options)
 }
@@ -99,19 +91,15 @@ fn start_spans(rt: &HostRuntime, options: usize, mark: u64) -> io::Result<()>
 {
     let count = argument_count(rt);
     if count < 8 + options {
-        return crate::faults::report_span_count(rt);
+        return report(rt, Fault::SpanCount);
     }
     read_spans(rt, options, mark, count)
 }
 
-// The mark of the profile that is meant.
-fn mark_of(small: bool) -> u64 {
-    if small { 1 } else { 0 }
-}
-
 fn main(rt: HostRuntime) -> io::Result<()> {
     let given = read_options(&rt);
-    let mark = mark_of(given.small);
+    // The mark of the small profile is 1, that of the large one 0.
+    let mark = u64::from(given.small);
     if given.spans {
         start_spans(&rt, given.words, mark)
     } else {

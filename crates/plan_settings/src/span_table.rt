@@ -1,95 +1,80 @@
 // The table that the program plan_settings prints with --spans: a line for each X of the command line. What it prints is what the proved function of
 // `plan::spans` answers.
 use crate::arguments::argument;
-use crate::text::{print, print_cell, print_named, print_nanoseconds, print_places, print_timing};
-use plan_rules::spans::Span;
-use std::io::{self, Stdout};
+use crate::faults::{Argument, Fault, in_range, within};
+use crate::text::{Nanoseconds, profile_note};
+use refused::Refusal;
+use std::io;
 
 // The greatest X that is read.
 const MOST: u64 = 999999999999999999;
 
-fn print_head(out: Stdout, s: rules::Setting) -> io::Result<()> {
-    print_timing(out, s.w, s.trc, s.tfaw)?;
-    print_named(out, b", N ", s.n)?;
-    print_named(out, b", tD ", s.td)?;
-    print_named(out, b", L ", s.l)?;
-    if s.profile == 1 {
-        print(out, b", small profile")?;
-    }
-    print(out, b" (ticks; 4 ticks are a nanosecond)\n")
+fn print_head(rt: &impl Print, s: rules::Setting) -> io::Result<()> {
+    print!(rt;
+        "W {}, tRC {}, tFAW {}, N {}, tD {}, L {}",
+        s.w, s.trc, s.tfaw, s.n, s.td, s.l
+    )?;
+    println!(rt;
+        "{} (ticks; 4 ticks are a nanosecond)",
+        profile_note(s.profile)
+    )
 }
 
-// The setting has no more banks than the profile, so that only its history can be above it.
-fn print_profile_limit(out: Stdout, mark: u64) -> io::Result<()> {
-    let card = setting::profile(mark);
-    print(out, b": tD")?;
-    print_places(out, card.history)
-}
-
-fn print_history_limit(out: Stdout) -> io::Result<()> {
-    let limits = setting::wide_limits();
-    print(out, b": tD")?;
-    print_places(out, limits.history)
-}
-
-// Why the setting is refused, by the number of the refusal.
-fn print_refusal(out: Stdout, refusal: u32, mark: u64) -> io::Result<()> {
-    print_named(out, b"The setting is refused: refusal ", refusal as u64)?;
-    match refusal {
-        1 => print(out, b": a number is out of its range\n"),
-        2 => print(
-            out,
-            b": W - 1 is below 2 x N x tRC, two bursts of N do not fit in the window\n",
-        ),
-        3 => print(out, b": tD is below tRC or above W / 2\n"),
-        4 => print_history_limit(out),
-        16 => print_profile_limit(out, mark),
-        _ => print(out, b": B is above L\n"),
+// Why the setting is refused. It has no more banks than the profile, so that only its history can be above it.
+fn print_refusal(rt: &impl Print, why: Refusal, mark: u64) -> io::Result<()> {
+    print!(rt; "The setting is refused: refusal {}: ", u32::from(why))?;
+    match why {
+        Refusal::OutOfRange => println!(rt; "a number is out of its range"),
+        Refusal::ShortWindow => {
+            println!(rt; "W - 1 is below 2 x N x tRC, two bursts of N do not fit in the window")
+        }
+        Refusal::BadDelay => println!(rt; "tD is below tRC or above W / 2"),
+        Refusal::LongHistory => {
+            let limits = setting::wide_limits();
+            println!(rt; "tD needs a history of more than {} places", limits.history)
+        }
+        Refusal::AboveProfile => {
+            let card = setting::profile(mark);
+            println!(rt; "tD needs a history of more than {} places", card.history)
+        }
+        _ => println!(rt; "B is above L"),
     }
 }
 
 // The line of a span of x ticks.
-fn print_line(out: Stdout, s: rules::Setting, x: u64) -> io::Result<()> {
-    let answer = plan::spans::span(s, x);
-    match answer {
-        Span::Most { times } => {
-            print(out, b" ")?;
-            print_cell(out, x)?;
-            print(out, b" ")?;
-            print_nanoseconds(out, x)?;
-            print(out, b" ")?;
-            print_cell(out, times)?;
-            print(out, b"\n")
-        }
-        Span::Refused { refusal } => print_refusal(out, refusal, s.profile),
+fn print_line(rt: &impl Print, s: rules::Setting, x: u64) -> io::Result<()> {
+    match plan::spans::span(s, x) {
+        Ok(times) => println!(rt; " {x:>12} {} {times:>12}", Nanoseconds(x)),
+        Err(why) => print_refusal(rt, why, s.profile),
     }
 }
 
-// Whether each word from argument `first` to the last of `count` is an X; the first that is none is reported.
-pub fn are_spans(rt: &HostRuntime, first: usize, count: usize) -> io::Result<bool> {
-    let mut i = first;
-    while i < count {
-        let x = argument(rt, i, MOST);
-        if !x.ok {
-            crate::faults::report_word(rt, 7, MOST)?;
-            return Ok(false);
-        }
-        if !crate::faults::is_within(rt, 7, x.value, MOST)? {
-            return Ok(false);
-        }
-        i += 1;
+// Each number of the setting is in its range, and each word from argument `first` to the last of `count` is an X; else the first that is not.
+pub fn check_spans(
+    rt: &HostRuntime,
+    s: rules::Setting,
+    first: usize,
+    count: usize,
+) -> Result<(), Fault> {
+    in_range(setting::wide_limits(), s)?;
+    within(Argument::Td, s.td, 536870912)?;
+    for i in first..count {
+        let x = argument(rt, i, MOST).ok_or(Fault::NoNumber {
+            argument: Argument::X,
+            most: MOST,
+        })?;
+        within(Argument::X, x, MOST)?;
     }
-    Ok(true)
+    Ok(())
 }
 
 // The lines of the X from argument `first` to the last of `count`.
 fn print_lines(rt: &HostRuntime, s: rules::Setting, first: usize, count: usize) -> io::Result<()> {
-    print(rt.stdout(), b"            X     nanoseconds      at most\n")?;
-    let mut i = first;
-    while i < count {
-        let x = argument(rt, i, MOST);
-        print_line(rt.stdout(), s, x.value)?;
-        i += 1;
+    println!(rt; "            X     nanoseconds      at most")?;
+    for i in first..count {
+        if let Some(x) = argument(rt, i, MOST) {
+            print_line(rt, s, x)?;
+        }
     }
     Ok(())
 }
@@ -101,10 +86,9 @@ pub fn print_spans(
     first: usize,
     count: usize,
 ) -> io::Result<()> {
-    print_head(rt.stdout(), s)?;
-    let answer = plan::spans::span(s, 1);
-    match answer {
-        Span::Most { times: _ } => print_lines(rt, s, first, count),
-        Span::Refused { refusal } => print_refusal(rt.stdout(), refusal, s.profile),
+    print_head(rt, s)?;
+    match plan::spans::span(s, 1) {
+        Ok(_) => print_lines(rt, s, first, count),
+        Err(why) => print_refusal(rt, why, s.profile),
     }
 }

@@ -1,150 +1,119 @@
 // The table that the program plan_settings prints: a line for each threshold, and the lines below it. What it prints of a threshold is what the proved
 // functions of `plan`, `plan::interval` and `plan::costs` answer, at a width of the counters.
 ghost use Rattle.std.specs.Prelude.{◌^◌, ◌≤◌};
-ghost use Rattle.plan.specs.Served.{Served};
-ghost use Rattle.plan.specs.Costs.{ServedWidth};
 
-use crate::text::{print, print_cell, print_named, print_nanoseconds, print_places, print_timing};
+use crate::text::{Nanoseconds, profile_note};
 use plan::costs::Width;
-use std::io::{self, Stdout};
+use refused::Refusal;
+use std::io;
 
-fn print_head(out: Stdout, width: Width, s: rules::Setting) -> io::Result<()> {
-    print_timing(out, s.w, s.trc, s.tfaw)?;
-    print_named(out, b", L ", s.l)?;
-    if width.counter == 4 {
-        print(out, b", 32-bit counters")?;
-    }
-    if s.profile == 1 {
-        print(out, b", small profile")?;
-    }
-    print_named(
-        out,
-        b" (ticks; 4 ticks are a nanosecond); bytes of the four buffers for ",
-        s.banks,
+fn print_head(rt: &impl Print, width: Width, s: rules::Setting) -> io::Result<()> {
+    let counters = if width.counter == 4 {
+        ", 32-bit counters"
+    } else {
+        ""
+    };
+    let profile = profile_note(s.profile);
+    print!(rt;
+        "W {}, tRC {}, tFAW {}, L {}{counters}{profile}",
+        s.w, s.trc, s.tfaw, s.l
     )?;
-    print_named(out, b" banks and ", s.threads)?;
-    print(out, b" threads\n")?;
-    print(
-        out,
-        b"           N    least tD    nanoseconds           H           B greatest tD       bytes\n",
+    print!(rt; " (ticks; 4 ticks are a nanosecond); bytes of the four buffers for ")?;
+    println!(rt; "{} banks and {} threads", s.banks, s.threads)?;
+    println!(rt;
+        "           N    least tD    nanoseconds           H           B greatest tD       bytes"
     )
 }
 
-fn print_history_limit(out: Stdout, limits: rules::Limits) -> io::Result<()> {
-    print(out, b": the smallest delay with B at most L")?;
-    print_places(out, limits.history)
-}
-
-// The setting has no more banks than the profile, so that only its history can be above it.
-fn print_profile_limit(out: Stdout, mark: u64) -> io::Result<()> {
-    let card = setting::profile(mark);
-    print(out, b": the least delay of the large profile")?;
-    print_places(out, card.history)
-}
-
-// Why no delay is accepted at these limits under the profile with this mark, by the number of the refusal.
-fn print_reason(out: Stdout, refusal: u32, limits: rules::Limits, mark: u64) -> io::Result<()> {
-    print_named(out, b"refusal ", refusal as u64)?;
-    match refusal {
-        1 => print(out, b": a field is out of its range\n"),
-        2 => print(
-            out,
-            b": W - 1 is below 2 x N x tRC, two bursts of N do not fit in the window\n",
-        ),
-        3 => print(
-            out,
-            b": the smallest delay with B at most L is below tRC or above W / 2\n",
-        ),
-        4 => print_history_limit(out, limits),
-        16 => print_profile_limit(out, mark),
-        _ => print(out, b": B is above L with every delay from 1 to 2^29\n"),
+// Why no delay is accepted at these limits under the profile with this mark. The setting has no more banks than the profile, so that only its history
+// can be above it.
+fn print_reason(rt: &impl Print, why: Refusal, limits: rules::Limits, mark: u64) -> io::Result<()> {
+    print!(rt; "refusal {}: ", u32::from(why))?;
+    match why {
+        Refusal::OutOfRange => println!(rt; "a field is out of its range"),
+        Refusal::ShortWindow => {
+            println!(rt; "W - 1 is below 2 x N x tRC, two bursts of N do not fit in the window")
+        }
+        Refusal::BadDelay => {
+            println!(rt; "the smallest delay with B at most L is below tRC or above W / 2")
+        }
+        Refusal::LongHistory => {
+            print!(rt; "the smallest delay with B at most L")?;
+            println!(rt; " needs a history of more than {} places", limits.history)
+        }
+        Refusal::AboveProfile => {
+            print!(rt; "the least delay of the large profile")?;
+            let card = setting::profile(mark);
+            println!(rt; " needs a history of more than {} places", card.history)
+        }
+        _ => println!(rt; "B is above L with every delay from 1 to 2^29"),
     }
 }
 
 // The line of the setting's threshold.
-fn print_line(out: Stdout, width: Width, s: rules::Setting) -> io::Result<()>
-    requires { ServedWidth width }
-{
-    print_cell(out, s.n)?;
-    let p = plan::interval::delays(width.limits, s);
-    match p {
-        plan_rules::delays::Plan::Between { least, greatest } => {
+fn print_line(rt: &impl Print, width: Width, s: rules::Setting) -> io::Result<()> {
+    match plan::interval::delays(width.limits, s) {
+        Ok(delays) => {
+            let least = delays.least;
             let c = plan::costs::costs(width, s, least);
-            print_cell(out, least)?;
-            print_nanoseconds(out, least)?;
-            print_cell(out, c.history)?;
-            print_cell(out, c.bound)?;
-            print_cell(out, greatest)?;
-            print_cell(out, c.bytes)?;
-            print(out, b"\n")
+            print!(rt; "{:>12}{least:>12}{}", s.n, Nanoseconds(least))?;
+            println!(rt;
+                "{:>12}{:>12}{:>12}{:>12}",
+                c.history, c.bound, delays.greatest, c.bytes
+            )
         }
-        plan_rules::delays::Plan::Nothing { refusal } => {
-            print(out, b" has no delay: ")?;
-            print_reason(out, refusal, width.limits, s.profile)
+        Err(why) => {
+            print!(rt; "{:>12} has no delay: ", s.n)?;
+            print_reason(rt, why, width.limits, s.profile)
         }
     }
 }
 
-fn print_threshold(out: Stdout, width: Width, s: rules::Setting, n: u64) -> io::Result<()>
-    requires { ServedWidth width }
-{
-    print_line(out, width, plan::interval::with_threshold(s, n))
+fn print_threshold(rt: &impl Print, width: Width, s: rules::Setting, n: u64) -> io::Result<()> {
+    print_line(rt, width, plan::interval::with_threshold(s, n))
 }
 
-fn print_trade(out: Stdout) -> io::Result<()> {
-    print(
-        out,
-        b"A larger N blacklists fewer well-behaved rows, and needs a delay and a history that are as long or longer.\n",
+fn print_trade(rt: &impl Print) -> io::Result<()> {
+    println!(rt;
+        "A larger N blacklists fewer well-behaved rows, and needs a delay and a history that are as long or longer."
     )?;
-    print(
-        out,
-        b"Every delay from the least to the greatest is accepted; a longer one never raises B and never shortens the history.\n",
+    println!(rt;
+        "Every delay from the least to the greatest is accepted; a longer one never raises B and never shortens the history."
     )
 }
 
 // The one threshold that is given.
-pub fn print_one(out: Stdout, width: Width, s: rules::Setting) -> io::Result<()>
-    requires { ServedWidth width }
-{
-    print_head(out, width, s)?;
-    print_line(out, width, s)?;
-    print_trade(out)
+pub fn print_one(rt: &impl Print, width: Width, s: rules::Setting) -> io::Result<()> {
+    print_head(rt, width, s)?;
+    print_line(rt, width, s)?;
+    print_trade(rt)
 }
 
 // The powers of two below the last threshold that has a delay.
-fn print_powers(out: Stdout, width: Width, s: rules::Setting, last: u64) -> io::Result<()>
-    requires { ServedWidth width × (last ≤ 2 ^ 20) }
+// Kept: no plainer. The threshold doubles, so a range would need a shift and a second end.
+fn print_powers(rt: &impl Print, width: Width, s: rules::Setting, last: u64) -> io::Result<()>
+    requires { last ≤ 2 ^ 20 }
 {
     let mut n: u64 = 1;
     while n < last {
-        print_threshold(out, width, s, n)?;
+        print_threshold(rt, width, s, n)?;
         n = 2 * n;
     }
     Ok(())
 }
 
-// The last threshold that has a delay.
-fn last_threshold(limits: rules::Limits, s: rules::Setting) -> u64
-    requires { Served limits }
-    ensures { result ≤ limits.threshold }
-{
-    plan::last_threshold(limits, s)
-}
-
 // The powers of two, the last threshold that has a delay, and the one after it, which has none.
-pub fn print_table(out: Stdout, width: Width, s: rules::Setting) -> io::Result<()>
-    requires { ServedWidth width }
-{
-    print_head(out, width, s)?;
+pub fn print_table(rt: &impl Print, width: Width, s: rules::Setting) -> io::Result<()> {
+    print_head(rt, width, s)?;
     let limits = width.limits;
-    let last = last_threshold(limits, s);
-    print_powers(out, width, s, last)?;
+    let last = plan::last_threshold(limits, s);
+    print_powers(rt, width, s, last)?;
     if last > 0 {
-        print_threshold(out, width, s, last)?;
+        print_threshold(rt, width, s, last)?;
     }
     if last < limits.threshold {
-        print_threshold(out, width, s, last + 1)?;
-        print(out, b"             and no larger N has one.\n")?;
+        print_threshold(rt, width, s, last + 1)?;
+        println!(rt; "             and no larger N has one.")?;
     }
-    print_trade(out)
+    print_trade(rt)
 }

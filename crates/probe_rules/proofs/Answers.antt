@@ -15,30 +15,26 @@ use mir.Val.{of_z, to_z}
 use borrow.Author.Tests.{eq-eqb}
 use Rattle.rules.specs.Cells.{every}
 use Rattle.rules.proofs.Tests.{and_i, and_l, and_r, holds, fails, is_true, cond_yes, cond_no, every_at}
-use Rattle.probe_rules.specs.declared.Verdict.TheVariants.{Fit, NoFit}
+use Rattle.std.specs.Prelude.{Some, None, Ok}
 use Rattle.probe_rules.specs.Probes.{Probe, probes_refusal, same_row, near, fits, offset, least_offset, decided, verdict_of, code_of, out_of}
 use Rattle.probe_rules.specs.Closed.{alike}
 use Rattle.probe_rules.specs.Claims.{LeastFit, AnswersLeast, Apart, NoFitExactly, EmptyFit}
 use Rattle.probe_rules.proofs.Integers.{number_of, offset_of, number_most, offset_within, in_order, order_of, read_back}
-use Rattle.probe_rules.proofs.Refusals.{refused_exactly}
+use Rattle.probe_rules.proofs.Refusals.{refused_exactly, verdict_decided}
 use Rattle.probe_rules.proofs.Found.{Found, found, found_one}
 use Rattle.probe_rules.proofs.Closed.{fits_is}
 
--- ---- the verdict by the number
-
-pub verdict_decided : (x y : Probe) (j : ℕ) → probes_refusal x y j ≡ 0 → verdict_of x y j ≡ decided (least_offset j x y)
-unfolding verdict_of
-verdict_decided x y j e = rw (eq-eqb (probes_refusal x y j) 0 e) refl
+-- ---- the number that decides
 
 least_found : (x y : Probe) (j : ℕ) → Found (λ e. fits j (offset e) x y) 0 2001 (least_offset j x y)
 unfolding least_offset
 least_found x y j = found (λ e. fits j (offset e) x y) 0 2001
 
-pub decided_fit : (r : ℕ) → r ≤ 2000 → decided r ≡ Fit r
-decided_fit r h = cond_yes (leb r 2000) (Fit r) NoFit (le→leb r 2000 h)
+pub decided_fit : (r : ℕ) → r ≤ 2000 → decided r ≡ Some r
+decided_fit r h = cond_yes (leb r 2000) (Some r) None (le→leb r 2000 h)
 
-decided_none : (r : ℕ) → 2000 < r → decided r ≡ NoFit
-decided_none r h = cond_no (leb r 2000) (Fit r) NoFit (not_T (leb r 2000) (λ t. let k = leb→le r 2000 t in omega arith))
+decided_none : (r : ℕ) → 2000 < r → decided r ≡ None
+decided_none r h = cond_no (leb r 2000) (Some r) None (not_T (leb r 2000) (λ t. let k = leb→le r 2000 t in omega arith))
 
 -- ---- the number that is found, and the offsets that fit
 
@@ -94,7 +90,7 @@ answers_least x y j before e = (there, back)
     there : (word : ℕ) → out_of (verdict_of x y j) before ≡ 1 ∷ word ∷ [] → LeastFit j x y (to_z w64 word)
     there word q = go (leb r 2000) refl (subst (λ v. out_of v before ≡ 1 ∷ word ∷ []) (verdict_decided x y j e) q)
       where
-        go : (b : Bool) → leb r 2000 ≡ b → out_of (cond b (Fit r) NoFit) before ≡ 1 ∷ word ∷ [] → LeastFit j x y (to_z w64 word)
+        go : (b : Bool) → leb r 2000 ≡ b → out_of (Ok (cond b (Some r) None)) before ≡ 1 ∷ word ∷ [] → LeastFit j x y (to_z w64 word)
         go true k o =
             let h = leb→le r 2000 (holds (leb r 2000) k) in
             let w : of_z w64 (offset r) ≡ word = ap (λ ws. get_or ws 1 0) o in
@@ -104,7 +100,7 @@ answers_least x y j before e = (there, back)
     back : (d : ℤ) → LeastFit j x y d → (code_of (verdict_of x y j) ≡ 0) × (out_of (verdict_of x y j) before ≡ 1 ∷ of_z w64 d ∷ [])
     back d m =
         let s = least_is x y j r (least_found x y j) d m in
-        let v : verdict_of x y j ≡ Fit r = verdict_decided x y j e ∙ decided_fit r s.0 in
+        let v : verdict_of x y j ≡ Ok (Some r) = verdict_decided x y j e ∙ ap Ok (decided_fit r s.0) in
         (ap code_of v, ap (λ u. out_of u before) v ∙ ap (λ c. 1 ∷ of_z w64 c ∷ []) s.1)
 
 -- ---- no fit
@@ -162,14 +158,14 @@ no_fit_exactly x y j before e = (there, back)
     there : out_of (verdict_of x y j) before ≡ 0 ∷ 0 ∷ [] → Apart j x y
     there q = go (leb r 2000) refl (subst (λ v. out_of v before ≡ 0 ∷ 0 ∷ []) (verdict_decided x y j e) q)
       where
-        go : (b : Bool) → leb r 2000 ≡ b → out_of (cond b (Fit r) NoFit) before ≡ 0 ∷ 0 ∷ [] → Apart j x y
+        go : (b : Bool) → leb r 2000 ≡ b → out_of (Ok (cond b (Some r) None)) before ≡ 0 ∷ 0 ∷ [] → Apart j x y
         go true k o = absurd (omega (arith, ap (λ ws. get_or ws 0 0) o))
         go false k o = apart x y j (no_fit x y j r (least_found x y j) (nleb→lt r 2000 (fails (leb r 2000) k)))
 
     back : Apart j x y → (code_of (verdict_of x y j) ≡ 0) × (out_of (verdict_of x y j) before ≡ 0 ∷ 0 ∷ [])
     back a =
-        let v : verdict_of x y j ≡ NoFit =
-        verdict_decided x y j e ∙ decided_none r (none_fits x y j r (least_found x y j) (none_where_apart x y j a)) in
+        let v : verdict_of x y j ≡ Ok None =
+        verdict_decided x y j e ∙ ap Ok (decided_none r (none_fits x y j r (least_found x y j) (none_where_apart x y j a))) in
         (ap code_of v, ap (λ u. out_of u before) v)
 
 -- ---- two empty lists
@@ -190,5 +186,5 @@ empty_fit x y j before cx cy h =
     let zero-found : Found (λ e. fits j (offset e) x y) 0 2001 0 =
     record { from = omega arith; most = omega arith; passes = λ k. fit; first = λ i a b. absurd (omega arith) } in
     let r : least_offset j x y ≡ 0 = found_one (λ e. fits j (offset e) x y) (least_found x y j) zero-found in
-    let v : verdict_of x y j ≡ Fit 0 = verdict_decided x y j accepted ∙ ap decided r in
+    let v : verdict_of x y j ≡ Ok (Some 0) = verdict_decided x y j accepted ∙ ap (λ n. Ok (decided n)) r in
     (ap code_of v, ap (λ u. out_of u before) v)

@@ -7,8 +7,10 @@ use lib.Dec.{T, leb, ltb, eqb, eqb→eq, eqb_refl}
 use lib.IntN.{ℤ, sub_ℕ, nat_abs, ◌-ℤ◌}
 use Rattle.rules.specs.Cells.{every}
 use Rattle.rules.proofs.Tests.{and_i, and_l, and_r, holds, same_test, every_same}
-use Rattle.probe_rules.specs.declared.Verdict.TheVariants.{Refused}
-use Rattle.probe_rules.specs.Probes.{Probe, word_at, bank_at, row_at, on_time, too_short, late_tick, probes_refusal, same_row, near, fits, offset, least_offset, decided, verdict_of}
+use Rattle.std.specs.Prelude.{Some, None, Ok, Err}
+use Rattle.std.specs.Option.{option_map_or}
+use Rattle.probe_rules.specs.declared.ProbeRefusal.TheVariants.{ShortBuffer, BadInput}
+use Rattle.probe_rules.specs.Probes.{Probe, word_at, bank_at, row_at, on_time, too_short, late_tick, refusal_of, same_row, near, fits, offset, least_offset, decided, verdict_of}
 use Rattle.probe_rules.specs.Claims.{SameRecords, OnlyRecords, SameWord}
 use Rattle.probe_rules.proofs.Refusals.{not_short}
 use Rattle.probe_rules.proofs.Found.{search_same}
@@ -64,11 +66,11 @@ same_short : (x z : Probe) → SameRecords x z → too_short x ≡ too_short z
 same_short x z a = not_short x a.here ∙ sym (not_short z a.there)
 
 pub only_records : OnlyRecords
-unfolding verdict_of probes_refusal
+unfolding verdict_of refusal_of
 only_records x y z w j a b =
-    ap₂ (λ r e. cond (eqb r 0) (decided e) (Refused r)) refusal (same_offset x y z w a b j)
+    ap₂ (λ r e. option_map_or Err r (Ok (decided e))) refusal (same_offset x y z w a b j)
   where
-    refusal : probes_refusal x y j ≡ probes_refusal z w j
+    refusal : refusal_of x y j ≡ refusal_of z w j
     refusal =
-        ap₂ (λ s t. cond s 6 (cond t 18 0)) (ap₂ ◌||◌ (same_short x z a) (same_short y w b))
+        ap₂ (λ s t. cond s (Some ShortBuffer) (cond t (Some BadInput) None)) (ap₂ ◌||◌ (same_short x z a) (same_short y w b))
         (ap₂ (λ s t. ltb 1000 j || s || t) (same_late x z a) (same_late y w b))

@@ -1,10 +1,10 @@
 -- The small cases, computed.
 use mathlib.Core.Path.{refl}
-use Rattle.probe_rules.specs.Probes.{late_tick, probes_refusal, same_row, near, fits, least_offset, verdict_of}
+use Rattle.probe_rules.specs.Probes.{late_tick, refusal_of, same_row, near, fits, least_offset, verdict_of}
 use Rattle.probe_rules.specs.Samples.{Cases}
 
 pub cases : Cases
-unfolding late_tick probes_refusal same_row near fits least_offset verdict_of
+unfolding late_tick refusal_of same_row near fits least_offset verdict_of
 cases =
     record {
       least = refl;
@@ -27,4 +27,6 @@ cases =
       short = refl;
       short_ticks = refl;
       short_rows = refl;
+      short_is = refl;
+      bad_is = refl;
     }

@@ -1,11 +1,13 @@
 -- What two probes recorded, and the verdict about it (document 02, i).
 use Rattle.std.specs.Prelude.{List, [], ◌∷◌, Bool, not, ◌&&◌, ◌||◌, cond, ℕ, ◌/◌, ◌%◌, ◌^◌, leb, ltb, eqb, length, get_or, ℤ, nat_abs, ◌-ℤ◌}
+use Rattle.std.specs.Prelude.{Option, Some, None, Result, Ok, Err}
+use Rattle.std.specs.Option.{option_map_or}
 use Rattle.std.proofs.Math.IntN.{sub_ℕ}
 use Rattle.std.specs.Int.{w64}
 use Rattle.std.proofs.Common.{of_z}
 use Rattle.rules.specs.Cells.{every, least_from}
-use Rattle.probe_rules.specs.declared.Verdict.{Verdict}
-use Rattle.probe_rules.specs.declared.Verdict.TheVariants.{Fit, NoFit, Refused}
+use Rattle.probe_rules.specs.declared.ProbeRefusal.{ProbeRefusal}
+use Rattle.probe_rules.specs.declared.ProbeRefusal.TheVariants.{ShortBuffer, BadInput}
 
 -- What a caller lends of one probe: the list "in recorded order", its ticks in one buffer and its rows in another, and how many records it has.
 pub record Probe : Type 0 where
@@ -44,9 +46,18 @@ on_time ticks i = ltb (get_or ticks i 0) (2 ^ 62)
 unfoldable pub late_tick : Probe → Bool
 late_tick p = not (every p.count (on_time p.ticks))
 
--- "18 a jitter above 1,000 or a tick of 2^62 or more, before any verdict"; 6 comes before it, and 0 is for neither
+-- "18 a jitter above 1,000 or a tick of 2^62 or more, before any verdict"; a short buffer comes before it, and nothing is for neither
+unfoldable pub refusal_of : Probe → Probe → ℕ → Option ProbeRefusal
+refusal_of x y j = cond (too_short x || too_short y) (Some ShortBuffer) (cond (ltb 1000 j || late_tick x || late_tick y) (Some BadInput) None)
+
+-- the numbers of document 01
+abbrev pub refusal_number : ProbeRefusal → ℕ
+refusal_number ShortBuffer = 6
+refusal_number BadInput = 18
+
+-- the refusal's number, and 0 where nothing is refused
 unfoldable pub probes_refusal : Probe → Probe → ℕ → ℕ
-probes_refusal x y j = cond (too_short x || too_short y) 6 (cond (ltb 1000 j || late_tick x || late_tick y) 18 0)
+probes_refusal x y j = option_map_or refusal_number (refusal_of x y j) 0
 
 -- ---- the verdict
 
@@ -70,24 +81,24 @@ offset number = sub_ℕ number 1000
 unfoldable pub least_offset : ℕ → Probe → Probe → ℕ
 least_offset j x y = least_from (λ e. fits j (offset e) x y) 0 2001
 
--- the verdict by the number that the search found
-abbrev pub decided : ℕ → Verdict
-decided number = cond (leb number 2000) (Fit number) NoFit
+-- what the number that the search found says: the lists fit with that offset, or they do not fit
+abbrev pub decided : ℕ → Option ℕ
+decided number = cond (leb number 2000) (Some number) None
 
 -- the refusal if there is one, else what the search says
-unfoldable pub verdict_of : Probe → Probe → ℕ → Verdict
-verdict_of x y j = cond (eqb (probes_refusal x y j) 0) (decided (least_offset j x y)) (Refused (probes_refusal x y j))
+unfoldable pub verdict_of : Probe → Probe → ℕ → Result (Option ℕ) ProbeRefusal
+verdict_of x y j = option_map_or Err (refusal_of x y j) (Ok (decided (least_offset j x y)))
 
 -- ---- what the call leaves
 
 -- the number that it returns
-abbrev pub code_of : Verdict → ℕ
-code_of (Fit number) = 0
-code_of NoFit = 0
-code_of (Refused number) = number
+abbrev pub code_of : Result (Option ℕ) ProbeRefusal → ℕ
+code_of (Ok (Some number)) = 0
+code_of (Ok None) = 0
+code_of (Err refusal) = refusal_number refusal
 
 -- The two words of out: 1 and d as a two's complement number of 64 bits, or 0 and 0 where the lists do not fit; as they were on a refusal.
-abbrev pub out_of : Verdict → List ℕ → List ℕ
-out_of (Fit number) before = 1 ∷ of_z w64 (offset number) ∷ []
-out_of NoFit before = 0 ∷ 0 ∷ []
-out_of (Refused number) before = before
+abbrev pub out_of : Result (Option ℕ) ProbeRefusal → List ℕ → List ℕ
+out_of (Ok (Some number)) before = 1 ∷ of_z w64 (offset number) ∷ []
+out_of (Ok None) before = 0 ∷ 0 ∷ []
+out_of (Err refusal) before = before

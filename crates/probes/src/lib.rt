@@ -3,79 +3,48 @@
 // statements of what they mean.
 #![tactic(auto)]
 
+mod lent;
 mod pairs;
 
-ghost use Rattle.std.specs.Prelude.{◌≡◌, ◌||◌, cond, ◌-◌, ◌^◌, ◌≤◌};
-ghost use Rattle.probe_rules.specs.Probes.{lent, too_short, offset, decided, verdict_of, code_of, out_of};
+ghost use Rattle.std.specs.Prelude.{◌≡◌, cond, ◌^◌, ◌≤◌};
+ghost use Rattle.probe_rules.specs.Probes.{lent, offset, decided, verdict_of, code_of, out_of};
 ghost use Rattle.probe_rules.specs.Closed.{closed};
 ghost use Rattle.std.specs.Int.{w64};
 ghost use Rattle.std.proofs.Common.{of_z};
 
-use crate::pairs::Records;
-use probe_rules::Verdict;
+use crate::lent::Lent;
+use crate::pairs::{Spread, look};
+use probe_rules::{ProbeRefusal, Verdict};
 
-// A list has more records than one of its buffers has cells.
-fn too_short(ticks: &[u64], rows: &[u32], count: u64) -> bool
-    ensures { result ≡ too_short (lent ticks.now rows.now count) }
+// The number of the least offset from the greatest and the least difference plus 2^62, for lists that are alike; others do not fit.
+fn decide(jitter: u64, spread: Spread) -> Option<u64>
+    requires { (jitter ≤ 1000) × (spread.greatest ≤ 2 ^ 63) × (spread.least ≤ 2 ^ 63) }
+    ensures { result ≡ decided (cond spread.alike (closed jitter spread.greatest spread.least) 2001) }
 {
-    (ticks.len() as u64) < count || (rows.len() as u64) < count
-}
-
-// a less b, and 0 where b is more.
-fn less(a: u64, b: u64) -> u64
-    ensures { result ≡ a - b }
-{
-    if b <= a { a - b } else { 0 }
-}
-
-// The verdict from the greatest and the least difference plus 2^62, for lists that are alike; others do not fit.
-fn decide(jitter: u64, alike: bool, greatest: u64, least: u64) -> Verdict
-    requires { (jitter ≤ 1000) × (greatest ≤ 2 ^ 63) × (least ≤ 2 ^ 63) }
-    ensures { result ≡ decided (cond alike (closed jitter greatest least) 2001) }
-{
-    if !alike {
-        return Verdict::NoFit;
+    if !spread.alike {
+        return None;
     }
-    let number = less(greatest + 1000, 4611686018427387904 + jitter);
+    let number = (spread.greatest + 1000).saturating_sub(4611686018427387904 + jitter);
     if number > 2000 {
-        return Verdict::NoFit;
+        return None;
     }
-    if number + 4611686018427387904 > least + jitter + 1000 {
-        return Verdict::NoFit;
+    if number + 4611686018427387904 > spread.least + jitter + 1000 {
+        return None;
     }
-    Verdict::Fit { number }
+    Some(number)
 }
 
 // The verdict about two lists.
-fn verdict(
-    xticks: &[u64],
-    xrows: &[u32],
-    xcount: u64,
-    yticks: &[u64],
-    yrows: &[u32],
-    ycount: u64,
-    jitter: u64,
-) -> Verdict
-    ensures { result ≡ verdict_of (lent xticks.now xrows.now xcount) (lent yticks.now yrows.now ycount) jitter }
+fn verdict(x: &Lent, y: &Lent, jitter: u64) -> Verdict
+    ensures { result ≡ verdict_of x.now y.now jitter }
 {
-    if too_short(xticks, xrows, xcount) {
-        return Verdict::Refused { refusal: 6 };
-    }
-    if too_short(yticks, yrows, ycount) {
-        return Verdict::Refused { refusal: 6 };
-    }
+    let first = x.records()?;
+    let second = y.records()?;
     if jitter > 1000 {
-        return Verdict::Refused { refusal: 18 };
+        return Err(ProbeRefusal::BadInput);
     }
-    let records = crate::pairs::look(xticks, xrows, xcount, yticks, yrows, ycount);
-    match records {
-        Records::Late => Verdict::Refused { refusal: 18 },
-        Records::Spread {
-            alike,
-            greatest,
-            least,
-        } => decide(jitter, alike, greatest, least),
-    }
+    let spread = look(&first, &second).ok_or(ProbeRefusal::BadInput)?;
+    Ok(decide(jitter, spread))
 }
 
 // The offset with this number, which is 1,000 more, as a two's complement number.
@@ -83,11 +52,7 @@ fn twos_complement(number: u64) -> u64
     requires { number ≤ 2000 }
     ensures { result ≡ of_z w64 (offset number) }
 {
-    if number < 1000 {
-        18446744073709550616 + number
-    } else {
-        number - 1000
-    }
+    (number as i64 - 1000).cast_unsigned()
 }
 
 // Whether the lists of two probes fit, and the least offset d of their clocks: 0, and in out 1 and d, or 0 and 0 where they do not fit; or the
@@ -95,6 +60,7 @@ fn twos_complement(number: u64) -> u64
 // It rules out: another offset than the least, a difference of exactly the jitter that does not fit, lists of different length, bank or row that
 // fit, a late tick without a partner that is not refused, another offset than −1,000 for two empty lists, a refusal that writes, an answer that
 // depends on cells behind the records.
+// Kept: the eight parameters and a number for a refusal are the C interface (include/throttle_probes.h).
 pub fn throttle_fit_probes(
     xticks: &[u64],
     xrows: &[u32],
@@ -107,16 +73,25 @@ pub fn throttle_fit_probes(
 ) -> u32
     ensures { let v = verdict_of (lent xticks.now xrows.now xcount) (lent yticks.now yrows.now ycount) jitter in (result ≡ code_of v) × (out.new ≡ out_of v out.old) }
 {
-    let answer = verdict(xticks, xrows, xcount, yticks, yrows, ycount, jitter);
-    match answer {
-        Verdict::Fit { number } => {
+    let x = Lent {
+        ticks: xticks,
+        rows: xrows,
+        count: xcount,
+    };
+    let y = Lent {
+        ticks: yticks,
+        rows: yrows,
+        count: ycount,
+    };
+    match verdict(&x, &y, jitter) {
+        Ok(Some(number)) => {
             *out = [1, twos_complement(number)];
             0
         }
-        Verdict::NoFit => {
+        Ok(None) => {
             *out = [0, 0];
             0
         }
-        Verdict::Refused { refusal } => refusal,
+        Err(refusal) => refusal.into(),
     }
 }

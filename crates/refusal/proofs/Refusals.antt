@@ -1,5 +1,5 @@
 -- The refusals of a call, test by test.
-use Rattle.std.proofs.Common.{◌≡◌, ℕ, ◌<◌, ◌≤◌, Bool, true, false, not, ◌||◌, ltb, leb, ◌≢◌, List, length, sym, refl, ap, ◌∙◌, arith, nltb→le}
+use Rattle.std.proofs.Common.{◌≡◌, ℕ, ◌<◌, ◌≤◌, Bool, true, false, not, ◌||◌, ltb, leb, ◌≢◌, List, length, sym, refl, ◌∙◌, arith, nltb→le}
 use lib.Dec.{nleb→lt}
 use Rattle.head.specs.declared.Head.{Head}
 use Rattle.rules.specs.declared.Setting.{Setting}
@@ -11,7 +11,7 @@ use Rattle.rules.specs.History.{memory_ok}
 use Rattle.rules.specs.Tested.{Accepted}
 use Rattle.rules.specs.Calls.{setup_refusal, call_refusal, done_refusal}
 use Rattle.rules.proofs.Tests.{not_or}
-use Rattle.rules.proofs.Accept.{number_none, first_refusal, or_else_none, refuse_none, accepted}
+use Rattle.rules.proofs.Accept.{first_refusal, or_else_none, refuse_none, accepted}
 use Rattle.refusal.specs.Memory.{memory_test}
 use Rattle.refusal.specs.Lengths.{short_test}
 use Rattle.refusal.specs.Tests.{place_refusal, setup_test, lent_test, call_test, done_test}
@@ -68,18 +68,6 @@ module _ (m : Limits) (s : Setting) (seeds : List ℕ) (h : Head) (counters : �
   unfolding lent_test
   lent_setup = or_else_nothing (setup_test m s seeds counters (length ticks) rows threads)
 
-  -- refused with one of these
-  pub lent_first : (keeps : Bool) → refusal_number (setup_test m s seeds counters (length ticks) rows threads) ≢ 0
-      → lent_test m s seeds h counters ticks rows threads keeps ≡ setup_test m s seeds counters (length ticks) rows threads
-  unfolding lent_test
-  lent_first keeps k = or_else_first (setup_test m s seeds counters (length ticks) rows threads) _ k
-
-  -- and else 7 decides
-  pub lent_memory : refusal_number (setup_test m s seeds counters (length ticks) rows threads) ≡ 0
-      → lent_test m s seeds h counters ticks rows threads true ≡ refuse (not (memory_test s h ticks)) bad_memory none
-  unfolding lent_test
-  lent_memory e = or_else_second (setup_test m s seeds counters (length ticks) rows threads) _ e
-
 -- ---- what the tests that are passed tell
 
 -- of refusals 1 to 6 and 16
@@ -89,10 +77,10 @@ pub record Lengths (m : Limits) (s : Setting) (seeds : List ℕ) (ticks threads 
   pub threads_long : threads_used s ≤ threads
 
 pub tested_setup : (m : Limits) (s : Setting) (seeds : List ℕ) (counters ticks rows threads : ℕ)
-    → refusal_number (setup_test m s seeds counters ticks rows threads) ≡ 0 → Lengths m s seeds ticks threads
+    → setup_test m s seeds counters ticks rows threads ≡ none → Lengths m s seeds ticks threads
 unfolding setup_test short_test
 tested_setup m s seeds counters ticks rows threads e =
-    let r = or_else_none (setting_refusal m s seeds) _ (number_none (setup_test m s seeds counters ticks rows threads) e) in
+    let r = or_else_none (setting_refusal m s seeds) _ e in
     let q = refuse_none (short_test s counters ticks rows threads) short_buffer none (omega arith) r.1 in
     let a = ltb counters (counters_used s) in
     let b = ltb ticks (history_length s) in
@@ -114,15 +102,14 @@ pub record Tested (m : Limits) (s : Setting) (seeds : List ℕ) (threads bank th
   pub thread_in : thread < s.threads
 
 pub tested_call : (m : Limits) (s : Setting) (seeds : List ℕ) (h : Head) (counters : ℕ) (ticks : List ℕ) (rows threads tick bank thread : ℕ)
-    → refusal_number (call_test m s seeds h counters ticks rows threads tick bank thread) ≡ 0 → Tested m s seeds threads bank thread
+    → call_test m s seeds h counters ticks rows threads tick bank thread ≡ none → Tested m s seeds threads bank thread
 unfolding call_test lent_test place_refusal
 tested_call m s seeds h counters ticks rows threads tick bank thread e =
-    let r7 = or_else_none (lent_test m s seeds h counters ticks rows threads true) _
-    (number_none (call_test m s seeds h counters ticks rows threads tick bank thread) e) in
+    let r7 = or_else_none (lent_test m s seeds h counters ticks rows threads true) _ e in
     let r6 = or_else_none (setup_test m s seeds counters (length ticks) rows threads) _ r7.0 in
     let r8 = refuse_none (leb s.banks bank || leb s.threads thread) outside_setting _ (omega arith) r7.1 in
     let n8 = not_or (leb s.banks bank) (leb s.threads thread) r8.0 in
-    let k = tested_setup m s seeds counters (length ticks) rows threads (ap refusal_number r6.0) in
+    let k = tested_setup m s seeds counters (length ticks) rows threads r6.0 in
     record {
       setting = k.setting;
       threads_long = k.threads_long;

@@ -4,116 +4,61 @@
 
 mod head_ticks;
 mod lengths;
+mod lent;
 mod memory;
 mod place;
 
 ghost use Rattle.std.specs.Prelude.{◌≡◌, ◌^◌, ◌≤◌};
-ghost use Rattle.rules.specs.Answers.{refusal_number};
+ghost use Rattle.refused.specs.Passed.{passed};
 ghost use Rattle.rules.specs.Setting.{setting_of};
 ghost use Rattle.rules.specs.State.{head_of};
-ghost use Rattle.setting.specs.Differing.{Differing};
 ghost use Rattle.refusal.specs.Tests.{lent_test, call_test, done_test};
 
 use crate::memory::memory_ok;
+use refused::Refusal;
 use rules::Limits;
 
 // For callers that need no other test.
 pub use crate::lengths::setup_refusal;
-pub use crate::place::{flying_refusal, place_refusal};
+pub use crate::lent::Lent;
+pub use crate::place::{Named, flying_refusal, place_refusal};
 
-// Refusals 1 to 5, 16, 6 and, where the call keeps what the memory holds, 7. The setting and the head are read where the caller lent them. Of
-// counters, rows and thread counters it takes the lengths, of the seeds the bits in which they differ from the house seeds.
-pub fn lent_refusal(
-    m: Limits,
-    setting: &[u64; 10],
-    differing: u16,
-    seeds: &[u16],
-    head: &[u64; 22],
-    counters: usize,
-    ticks: &[u64],
-    rows: usize,
-    threads: usize,
-    keeps: bool,
-) -> u32
-    requires { (m.threshold ≤ 2 ^ 20) × Differing differing seeds.now }
-    ensures { result ≡ refusal_number (lent_test m (setting_of setting.now) seeds.now (head_of head.now) counters ticks.now rows threads keeps) }
+// Refusals 1 to 5, 16, 6 and, where the call keeps what the memory holds, 7. The setting and the head are read where the caller lent them.
+pub fn lent_refusal(m: Limits, lent: Lent<'_>, threads: usize, keeps: bool) -> Result<(), Refusal>
+    requires { m.threshold ≤ 2 ^ 20 }
+    ensures { result ≡ passed (lent_test m (setting_of lent.entry.setting.now) lent.entry.seeds.now (head_of lent.entry.head.now) lent.entry.counters lent.entry.ticks.now lent.entry.rows threads keeps) }
 {
-    let s = setting::load(setting);
-    let code = setup_refusal(m, s, differing, seeds, counters, ticks.len(), rows, threads);
-    if code != 0 {
-        return code;
+    let s = setting::load(lent.setting);
+    setup_refusal(
+        m,
+        s,
+        lent.differing,
+        lent.seeds,
+        lent.counters,
+        lent.ticks.len(),
+        lent.rows,
+        threads,
+    )?;
+    if keeps && !memory_ok(s, lent.head, lent.ticks, setting::history_length(s)) {
+        return Err(Refusal::BadMemory);
     }
-    if !keeps {
-        return 0;
-    }
-    if memory_ok(s, head, ticks, setting::history_length(s)) {
-        0
-    } else {
-        7
-    }
+    Ok(())
 }
 
 // Refusals 1 to 9 and 16 of a call with a tick, a bank and a thread.
-pub fn call_refusal(
-    m: Limits,
-    setting: &[u64; 10],
-    differing: u16,
-    seeds: &[u16],
-    head: &[u64; 22],
-    counters: usize,
-    ticks: &[u64],
-    rows: usize,
-    threads: usize,
-    tick: u64,
-    bank: u64,
-    thread: u64,
-) -> u32
-    requires { (m.threshold ≤ 2 ^ 20) × Differing differing seeds.now }
-    ensures { result ≡ refusal_number (call_test m (setting_of setting.now) seeds.now (head_of head.now) counters ticks.now rows threads tick bank thread) }
+pub fn call_refusal(m: Limits, lent: Lent<'_>, threads: usize, at: Named) -> Result<(), Refusal>
+    requires { m.threshold ≤ 2 ^ 20 }
+    ensures { result ≡ passed (call_test m (setting_of lent.entry.setting.now) lent.entry.seeds.now (head_of lent.entry.head.now) lent.entry.counters lent.entry.ticks.now lent.entry.rows threads at.tick at.bank at.thread) }
 {
-    let code = lent_refusal(
-        m, setting, differing, seeds, head, counters, ticks, rows, threads, true,
-    );
-    if code != 0 {
-        return code;
-    }
-    place_refusal(setting::load(setting), head[0], tick, bank, thread)
+    lent_refusal(m, lent, threads, true)?;
+    place_refusal(setting::load(lent.setting), lent.head[0], at)
 }
 
 // Refusals 1 to 10 and 16 of a done.
-pub fn done_refusal(
-    m: Limits,
-    setting: &[u64; 10],
-    differing: u16,
-    seeds: &[u16],
-    head: &[u64; 22],
-    counters: usize,
-    ticks: &[u64],
-    rows: usize,
-    threads: &[u32],
-    tick: u64,
-    bank: u64,
-    thread: u64,
-) -> u32
-    requires { (m.threshold ≤ 2 ^ 20) × Differing differing seeds.now }
-    ensures { result ≡ refusal_number (done_test m (setting_of setting.now) seeds.now (head_of head.now) counters ticks.now rows threads.now tick bank thread) }
+pub fn done_refusal(m: Limits, lent: Lent<'_>, threads: &[u32], at: Named) -> Result<(), Refusal>
+    requires { m.threshold ≤ 2 ^ 20 }
+    ensures { result ≡ passed (done_test m (setting_of lent.entry.setting.now) lent.entry.seeds.now (head_of lent.entry.head.now) lent.entry.counters lent.entry.ticks.now lent.entry.rows threads.now at.tick at.bank at.thread) }
 {
-    let code = call_refusal(
-        m,
-        setting,
-        differing,
-        seeds,
-        head,
-        counters,
-        ticks,
-        rows,
-        threads.len(),
-        tick,
-        bank,
-        thread,
-    );
-    if code != 0 {
-        return code;
-    }
-    flying_refusal(setting::load(setting), threads, bank, thread)
+    call_refusal(m, lent, threads.len(), at)?;
+    flying_refusal(setting::load(lent.setting), threads, at.bank, at.thread)
 }

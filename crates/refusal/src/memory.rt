@@ -7,17 +7,14 @@ ghost use Rattle.refusal.specs.Memory.{memory_test};
 use crate::head_ticks::head_past;
 use rules::Setting;
 
+// Kept: places beside the ticks, since the lent buffer may be longer than the history (C interface).
 // Refusal 7 does not apply.
 pub fn memory_ok(s: Setting, head: &[u64; 22], ticks: &[u64], places: usize) -> bool
     requires { (s.banks ≤ 16) × (places ≡ history_length s) × (places ≤ length ticks.now) }
     ensures { result ≡ memory_test s (head_of head.now) ticks.now }
 {
     let next = head[1];
-    if places as u64 <= next {
-        return false;
-    }
-    if !head_past(head, s.banks) {
-        return false;
-    }
-    history::steady(ticks, places, next as usize, head[0])
+    next < places as u64
+        && head_past(head, s.banks)
+        && history::steady(ticks, places, next as usize, head[0])
 }

@@ -14,6 +14,8 @@ use crate::line::{put, put_line_of_two};
 use tally::Report;
 
 // The text of a report at the start of the buffer. The answer is its length.
+// Kept: bytes put into a lent buffer and no Display: `lay` promises the text of every report and cannot fail, which may not change, and a `write!` into a
+// buffer promises its text only where it gives Ok.
 // It rules out: `agrees` for a record that differs, a count under the other's word, the block and the place exchanged.
 pub fn lay(report: Report, out: &mut [u8]) -> usize
     requires { 128 ≤ length out.old }
@@ -21,11 +23,11 @@ pub fn lay(report: Report, out: &mut [u8]) -> usize
 {
     match report {
         Report::Refused { number, blocks } => {
-            return put_line_of_two(out, 0, b"refused ", number, blocks);
+            put_line_of_two(out, 0, b"refused ", number, blocks)
         }
         Report::Agrees { records, opened } => {
             let at = put_counts(out, records, opened);
-            return put(out, at, b"agrees\n");
+            put(out, at, b"agrees\n")
         }
         Report::Differs {
             records,
@@ -34,7 +36,7 @@ pub fn lay(report: Report, out: &mut [u8]) -> usize
             place,
         } => {
             let at = put_counts(out, records, opened);
-            return put_line_of_two(out, at, b"differs ", block, place);
+            put_line_of_two(out, at, b"differs ", block, place)
         }
     }
 }

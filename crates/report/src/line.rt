@@ -1,4 +1,5 @@
 // Words and decimal numbers, put one behind the other in a buffer that the caller lends, and lines of them.
+// Kept: the buffer and the place reached are two parameters. In a struct they are no plainer, since each contract then has to say what the lent buffer becomes.
 ghost use Rattle.std.specs.Prelude.{◌+◌, ◌≤◌, ◌≡◌, ◌++◌, length, take};
 ghost use Rattle.report.specs.Lines.{decimal_of, line_of, line_of_two};
 
@@ -7,12 +8,9 @@ pub fn put(out: &mut [u8], at: usize, word: &[u8]) -> usize
     requires { at + length word.now ≤ length out.old }
     ensures { (result ≡ at + length word.now) × (take result out.new ≡ take at out.old ++ word.now) }
 {
-    let mut i: usize = 0;
-    while i < word.len() {
-        out[at + i] = word[i];
-        i += 1;
-    }
-    at + i
+    let end = at + word.len();
+    out[at..end].copy_from_slice(word);
+    end
 }
 
 // A number in decimal behind the first `at` bytes.

@@ -15,7 +15,7 @@ pub fn short_window(s: rules::Setting) -> bool
 pub fn bad_delay(s: rules::Setting) -> bool
     ensures { result ≡ (ltb s.td s.trc || ltb (epoch_length s) s.td) }
 {
-    if s.td < s.trc { true } else { s.w / 2 < s.td }
+    s.td < s.trc || s.w / 2 < s.td
 }
 
 // Four times td / tfaw, rounded up: at most four activations of the rank fall within any tfaw ticks. The division is one of 32 bits.
@@ -52,9 +52,5 @@ pub fn above_limit(s: rules::Setting) -> bool
 pub fn above_profile(p: rules::Profile, banks: u64, history: u64) -> bool
     ensures { result ≡ exceeds p banks history }
 {
-    if p.banks < banks {
-        true
-    } else {
-        p.history < history
-    }
+    p.banks < banks || p.history < history
 }

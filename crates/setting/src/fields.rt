@@ -5,32 +5,25 @@ ghost use Rattle.rules.specs.Setting.{fields_in_range};
 
 use crate::words::is_known;
 
-// Both tests hold. Both are computed before the call, so the compiler joins them without a branch.
-pub fn and(a: bool, b: bool) -> bool
-    ensures { result ≡ (a && b) }
-{
-    if a { b } else { false }
-}
-
-// x is from low to high.
+// x is from low to high. `&` has no branch: both tests are computed.
 fn within(low: u64, high: u64, x: u64) -> bool
     ensures { result ≡ between low high x }
 {
-    and(low <= x, x <= high)
+    (low <= x) & (x <= high)
 }
 
 // The tests before hold, and x is from low to high.
 fn and_within(before: bool, low: u64, high: u64, x: u64) -> bool
     ensures { result ≡ (before && between low high x) }
 {
-    and(before, within(low, high, x))
+    before & within(low, high, x)
 }
 
 // Every field is in its range of the table, with the greatest N of these limits, and the mark is that of a profile.
 pub fn fields_in_range(m: rules::Limits, s: rules::Setting) -> bool
     ensures { result ≡ fields_in_range m s }
 {
-    let w = and(within(2, 1073741824, s.w), s.w % 2 == 0);
+    let w = within(2, 1073741824, s.w) & (s.w % 2 == 0);
     let trc = and_within(w, 1, 65535, s.trc);
     let tfaw = and_within(trc, 1, 65535, s.tfaw);
     let n = and_within(tfaw, 1, m.threshold, s.n);
@@ -39,5 +32,5 @@ pub fn fields_in_range(m: rules::Limits, s: rules::Setting) -> bool
     let q = and_within(l, 1, 255, s.q);
     let banks = and_within(q, 1, 16, s.banks);
     let threads = and_within(banks, 1, 32, s.threads);
-    and(threads, is_known(s.profile))
+    threads & is_known(s.profile)
 }

@@ -1,5 +1,7 @@
 // The pass over the seeds: whether they are in range, which refusal 1 asks, and whether they are the house seeds, for which a row's places come from a table
 // (`hash::high` and `hash::low`).
+ghost use Rattle.std.specs.Prelude.{◌≡◌, fold, bit_or, bit_xor};
+ghost use Rattle.std.specs.List.{zip};
 ghost use Rattle.setting.specs.Differing.{Differing};
 
 // The house seeds, function by function, that of bit 0 first.
@@ -10,6 +12,13 @@ const HOUSE: [u16; 64] = [
     592, 612, 706, 874, 92, 408, 798,
 ];
 
+// The bits in which some number differs from the one at its place in the other list, or-ed without a branch, so that the compiler uses vectors.
+fn differing_bits(a: &[u16], b: &[u16]) -> u16
+    ensures { result ≡ fold (λ bits pair. bit_or bits (bit_xor pair.0 pair.1)) 0 (zip a.now b.now) }
+{
+    a.iter().zip(b).fold(0, |bits, (x, y)| bits | (*x ^ *y))
+}
+
 // The bits in which some of the seeds differ from the house seed at their place; all sixteen where there are not 64 seeds. A house seed has ten
 // bits, so a seed that is out of range differs in a higher one.
 // It rules out: a pass that leaves one seed out, one that takes other seeds for these, and one that lets a seed of 1,024 pass.
@@ -19,10 +28,5 @@ pub fn difference(seeds: &[u16]) -> u16
     if seeds.len() != 64 {
         return 65535;
     }
-    let house = HOUSE;
-    let mut differing: u16 = 0;
-    for i in 0..64 {
-        differing = differing | (seeds[i] ^ house[i]);
-    }
-    differing
+    differing_bits(seeds, &HOUSE)
 }

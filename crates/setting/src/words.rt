@@ -4,6 +4,7 @@ ghost use Rattle.rules.specs.Setting.{setting_of, known, profile_of};
 ghost use Rattle.rules.specs.Policy.{limits01, limits02};
 
 // The setting that the ten words hold: nine in the order of document 01's table, and the profile mark.
+// Kept: an `impl From<&[u64; 10]> for rules::Setting` may stand in no crate but `rules`, which has types and no code (the orphan rule).
 pub fn load(words: &[u64; 10]) -> rules::Setting
     ensures { result ≡ setting_of words.now }
 {
@@ -42,6 +43,7 @@ pub fn wide_limits() -> rules::Limits
 }
 
 // Whether a profile has this mark: 0 is the large card, 1 the small one.
+// Kept: the mark stays a number, since it is a word of the caller's setting (C interface), and one that no profile has is refusal 1.
 pub fn is_known(mark: u64) -> bool
     ensures { result ≡ known mark }
 {

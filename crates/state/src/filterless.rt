@@ -58,7 +58,7 @@ pub fn done(s: Setting, h: Head, threads: &mut [u32], tick: u64, bank: u64, thre
 }
 
 // The RowHammer likelihood index of a thread in a bank: its counter in test, its full scale and the quota.
-#[derive(Clone, Copy)]
+#[derive(Clone, Copy, Debug, PartialEq, Eq)]
 pub struct Reading {
     pub c: u64,
     pub scale: u64,
@@ -75,7 +75,7 @@ pub fn index(s: Setting, threads: &[u32], bank: u64, thread: u64, e: u64) -> Rea
     let c = threads[cell + f];
     let quota = threads::quota::quota(s, c);
     Reading {
-        c: c as u64,
+        c: u64::from(c),
         scale: s.l - s.n,
         quota,
     }

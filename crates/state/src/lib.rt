@@ -23,7 +23,7 @@ pub fn row_word(bank: u64, row: u16) -> u32
     requires { bank < 16 }
     ensures { result ≡ row_word bank row }
 {
-    bank as u32 * 65536 + row as u32
+    bank as u32 * 65536 + u32::from(row)
 }
 
 // An activation at the last tick, apart from the filters: records the row in the history, counts it for the thread, and gives the head.

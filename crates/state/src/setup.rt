@@ -14,7 +14,8 @@ pub fn fresh(s: Setting, ticks: &mut [u64], rows: &mut [u32], threads: &mut [u32
     ensures { (result ≡ fresh_head) × (ticks.new ≡ clear_cells (λ i. ltb i (history_length s)) ticks.old) × (rows.new ≡ clear_cells (λ i. ltb i (history_length s)) rows.old) × (threads.new ≡ clear_cells (λ i. ltb i (threads_used s)) threads.old) }
 {
     history::clear(ticks, rows, setting::history_length(s));
-    history::clearing::clear32(threads, (s.banks * s.threads * 3) as usize);
+    let used = (s.banks * s.threads * 3) as usize;
+    threads[..used].fill(0);
     Head {
         last: 0,
         next: 0,

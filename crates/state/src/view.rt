@@ -12,12 +12,7 @@ use decision::View;
 use head::Head;
 use rules::Setting;
 
-fn both(a: bool, b: bool) -> bool
-    ensures { result ≡ (a && b) }
-{
-    if a { b } else { false }
-}
-
+// Kept: 0 for none, which `view_of` (decision/specs/Numbers.antt) says.
 // The tick from which the history is free of the row. It is looked for only where a filter blacklists the row.
 fn delay(
     s: Setting,
@@ -32,7 +27,7 @@ fn delay(
     requires { Bounds s × Memory s h ticks.now × (history_length s ≤ length ticks.now) × (history_length s ≤ length rows.now) × (bank < 16) × (h.last < 2 ^ 62) }
     ensures { result ≡ cond (ltb active s.n && ltb other s.n) 0 (delay_end s h ticks.now rows.now bank row) }
 {
-    if both(active < s.n, other < s.n) {
+    if active < s.n && other < s.n {
         return 0;
     }
     let places = setting::history_length(s);
@@ -45,7 +40,7 @@ fn delay(
         h.last,
         s.td,
     );
-    history::delay_end(ticks, found, places, s.td)
+    history::delay_end(ticks, found, s.td)
 }
 
 // Reads the view of a row with these estimates in the active and in the other filter; e is the epoch of the last tick, stored the bank's cell of the

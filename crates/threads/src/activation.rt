@@ -7,6 +7,7 @@ ghost use Rattle.rules.specs.Decision.{activated_threads};
 
 use crate::counters::cell;
 
+// Kept: the library has no such step; the lesser of one more and the limit would lower a counter that is above the limit.
 // A counter with 1 more, if it is below the limit.
 fn raise(c: u32, limit: u32) -> u32
     ensures { result ≡ raised limit c }
@@ -20,16 +21,10 @@ pub fn activate(threads: &mut [u32], s: rules::Setting, bank: u64, thread: u64, 
     ensures { threads.new ≡ activated_threads s threads.old bank thread black }
 {
     let at = cell(s, bank, thread);
-    let first = threads[at];
-    let second = threads[at + 1];
-    let flying = threads[at + 2] + 1;
-    threads[at + 2] = flying;
-    if !black {
-        return;
+    threads[at + 2] += 1;
+    if black {
+        let scale = (s.l - s.n) as u32;
+        threads[at] = raise(threads[at], scale);
+        threads[at + 1] = raise(threads[at + 1], scale);
     }
-    let scale = (s.l - s.n) as u32;
-    let first_raised = raise(first, scale);
-    let second_raised = raise(second, scale);
-    threads[at] = first_raised;
-    threads[at + 1] = second_raised;
 }

@@ -18,6 +18,5 @@ pub fn finish(threads: &mut [u32], s: rules::Setting, bank: u64, thread: u64)
     ensures { threads.new ≡ set threads.old (thread_cell s bank thread 2) (get_or threads.old (thread_cell s bank thread 2) 0 - 1) }
 {
     let flight = cell(s, bank, thread) + 2;
-    let flying = threads[flight] - 1;
-    threads[flight] = flying;
+    threads[flight] -= 1;
 }

@@ -1,13 +1,6 @@
 // The quota of a thread in a bank, from its index counter.
-ghost use Rattle.std.specs.Prelude.{◌≡◌, ◌-◌, ◌*◌, ◌^◌, ◌≤◌, ◌<◌, min};
+ghost use Rattle.std.specs.Prelude.{◌≡◌, ◌-◌, ◌*◌, ◌^◌, ◌≤◌, ◌<◌};
 ghost use Rattle.rules.specs.Quota.{half_even, quota_even};
-
-// What the index counter leaves of its full scale.
-fn remaining(c: u32, scale: u32) -> u32
-    ensures { (result ≡ scale - min c scale) × (result ≤ scale) }
-{
-    if c < scale { scale - c } else { 0 }
-}
 
 // a / b to the nearest whole number, an exact half to the even one.
 fn nearest(a: u32, b: u32) -> u32
@@ -32,9 +25,10 @@ fn share(s: rules::Setting, c: u32) -> u64
     ensures { (result ≡ quota_even s c) × (result ≤ 255) }
 {
     let scale = (s.l - s.n) as u32;
-    let left = remaining(c, scale);
+    // What the index counter leaves of its full scale.
+    let left = scale.saturating_sub(c);
     let product = s.q as u32 * left;
-    nearest(product, scale) as u64
+    u64::from(nearest(product, scale))
 }
 
 // The quota of a thread in a bank whose index counter in test is c. It is Q, with no division, while the counter is 0.

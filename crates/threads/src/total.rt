@@ -4,24 +4,16 @@ ghost use Rattle.rules.specs.Cells.{sum_below};
 ghost use Rattle.rules.specs.State.{threads_used};
 ghost use Rattle.rules.specs.Quota.{in_flight_here};
 
-// A cell's number in 64 bits.
-fn wide(x: u32) -> u64
-    ensures { (result ≡ x) × (result < 4294967296) }
-{
-    x as u64
-}
+use crate::counters::cell;
 
 // The sum of the thread's counts in the banks of the setting. 64 bits hold the sum of any cells.
 pub fn total(threads: &[u32], s: rules::Setting, thread: u64) -> u64
     requires { (thread < s.threads) × (s.banks ≤ 16) × (s.threads ≤ 32) × (threads_used s ≤ length threads.now) }
     ensures { result ≡ sum_below s.banks (λ b. in_flight_here s threads.now b thread) }
 {
-    let cells = (s.threads * 3) as usize;
-    let mut at = (thread * 3 + 2) as usize;
     let mut sum: u64 = 0;
     for bank in 0..s.banks {
-        sum += wide(threads[at]);
-        at += cells;
+        sum += u64::from(threads[cell(s, bank, thread) + 2]);
     }
     sum
 }

@@ -9,11 +9,13 @@ fn clear_kind(threads: &mut [u32], kind: usize, groups: usize)
     requires { (kind < 3) × (3 * groups ≤ length threads.old) }
     ensures { threads.new ≡ clear_cells (kind_below kind groups) threads.old }
 {
+    // Kept: an index. After `chunks_exact_mut` a proof knows how many cells there are and not what they hold, of which the contract speaks.
     for i in 0..groups {
         threads[3 * i + kind] = 0;
     }
 }
 
+// Kept: what is used stands beside the counters, since a lent buffer may be longer and its rest stays as it is (C interface).
 // The clock goes from one epoch to another: index counters are cleared as the filters are, and in flight stays.
 pub fn turn(threads: &mut [u32], used: usize, from: u64, to: u64)
     requires { (used ≤ length threads.old) × (used % 3 ≡ 0) × (from < 2 ^ 63) }

@@ -1,6 +1,8 @@
 // The throttle for C, which the crate `throttle_c` exports, proved against the rules: set-up, request, done and index with 16-bit filter counters, the same
 // with 32-bit ones, and the change-over from one to the other. Every call returns 0 when it answered, and else the number of its refusal; a refused call
 // changes nothing that was lent. Of buffers that overlap nothing is promised.
+// Kept: a function for each width, and the numbers of the refusals, since C calls each function by its name (C interface). Both widths call the same
+// generic functions of `calls`.
 #![tactic(auto)]
 
 ghost use Rattle.std.specs.Prelude.{◌≡◌, []};
@@ -11,11 +13,13 @@ ghost use Rattle.widths.specs.ChangeOver.{changed_over, change_over};
 ghost use Rattle.interface.specs.Left.{left, found, leaves};
 
 use change_over::change_over;
+use refused::code;
 use setting::{narrow_limits, wide_limits};
 
-// For callers in Rattle that own their memory: set-up, request and done without the test of the whole history, and the numbers of an answer.
+// For callers in Rattle that own their memory: set-up, request and done without the test of the whole history, what a call names, and the numbers of an
+// answer.
 pub use decision::numbers::{answer_number, answer_wait};
-pub use sound::{done, request, setup};
+pub use sound::{Named, done, request, setup};
 
 // Set-up: clears the head and the used parts of the buffers.
 // It rules out: a set-up that refuses an accepted setting, clears half of the counters, or leaves stored ticks in the head.
@@ -30,7 +34,7 @@ pub fn throttle_setup(
 ) -> u32
     ensures { left result [] head.new counters.new ticks.new rows.new threads.new ≡ leaves (setup limits01 (setting_of setting.now) seeds.now (found head.old counters.old ticks.old rows.old threads.old)) [] head.old }
 {
-    narrow::other_calls::setup(setting, seeds, head, counters, ticks, rows, threads)
+    code(calls::other_calls::setup(setting, seeds, head, counters, ticks, rows, threads))
 }
 
 // A request for a row: out gets the answer's number, the wait tick and the openings left.
@@ -53,9 +57,11 @@ pub fn throttle_request(
     ensures { left result out.new head.new counters.new ticks.new rows.new threads.new ≡ leaves (step narrow (setting_of setting.now) seeds.now (found head.old counters.old ticks.old rows.old threads.old) (request tick bank thread row)) out.old head.old }
 {
     let limits = narrow_limits();
-    narrow::request::request(
-        limits, setting, seeds, head, counters, ticks, rows, threads, tick, bank, thread, row, out,
-    )
+    let at = Named { tick, bank, thread };
+    let answered = calls::request::request(
+        limits, setting, seeds, head, counters, ticks, rows, threads, at, row, out,
+    );
+    code(answered)
 }
 
 // A request done: one less in flight for the thread in the bank.
@@ -74,9 +80,8 @@ pub fn throttle_done(
 ) -> u32
     ensures { left result [] head.new counters.new ticks.new rows.new threads.new ≡ leaves (step narrow (setting_of setting.now) seeds.now (found head.old counters.old ticks.old rows.old threads.old) (done tick bank thread)) [] head.old }
 {
-    narrow::other_calls::done(
-        setting, seeds, head, counters, ticks, rows, threads, tick, bank, thread,
-    )
+    let at = Named { tick, bank, thread };
+    code(calls::other_calls::done(setting, seeds, head, counters, ticks, rows, threads, at))
 }
 
 // The RowHammer likelihood index of a thread in a bank: out gets c, D and the quota.
@@ -96,9 +101,10 @@ pub fn throttle_index(
 ) -> u32
     ensures { left result out.new head.new counters.new ticks.new rows.new threads.new ≡ leaves (step narrow (setting_of setting.now) seeds.now (found head.old counters.old ticks.old rows.old threads.old) (index tick bank thread)) out.old head.old }
 {
-    narrow::other_calls::index(
-        setting, seeds, head, counters, ticks, rows, threads, tick, bank, thread, out,
-    )
+    let at = Named { tick, bank, thread };
+    code(calls::other_calls::index(
+        setting, seeds, head, counters, ticks, rows, threads, at, out,
+    ))
 }
 
 // Set-up at the new width: N to 2^20, H to 32,768.
@@ -114,7 +120,7 @@ pub fn throttle_wide_setup(
 ) -> u32
     ensures { left result [] head.new counters.new ticks.new rows.new threads.new ≡ leaves (setup limits02 (setting_of setting.now) seeds.now (found head.old counters.old ticks.old rows.old threads.old)) [] head.old }
 {
-    wide::other_calls::setup(setting, seeds, head, counters, ticks, rows, threads)
+    code(calls::other_calls::setup(setting, seeds, head, counters, ticks, rows, threads))
 }
 
 // A request at the new width.
@@ -136,9 +142,11 @@ pub fn throttle_wide_request(
     ensures { left result out.new head.new counters.new ticks.new rows.new threads.new ≡ leaves (step wide (setting_of setting.now) seeds.now (found head.old counters.old ticks.old rows.old threads.old) (request tick bank thread row)) out.old head.old }
 {
     let limits = wide_limits();
-    wide::request::request(
-        limits, setting, seeds, head, counters, ticks, rows, threads, tick, bank, thread, row, out,
-    )
+    let at = Named { tick, bank, thread };
+    let replied = calls::request::request(
+        limits, setting, seeds, head, counters, ticks, rows, threads, at, row, out,
+    );
+    code(replied)
 }
 
 // A request done, at the new width.
@@ -157,9 +165,8 @@ pub fn throttle_wide_done(
 ) -> u32
     ensures { left result [] head.new counters.new ticks.new rows.new threads.new ≡ leaves (step wide (setting_of setting.now) seeds.now (found head.old counters.old ticks.old rows.old threads.old) (done tick bank thread)) [] head.old }
 {
-    wide::other_calls::done(
-        setting, seeds, head, counters, ticks, rows, threads, tick, bank, thread,
-    )
+    let at = Named { tick, bank, thread };
+    code(calls::other_calls::done(setting, seeds, head, counters, ticks, rows, threads, at))
 }
 
 // The RowHammer likelihood index of a thread in a bank, at the new width.
@@ -179,9 +186,10 @@ pub fn throttle_wide_index(
 ) -> u32
     ensures { left result out.new head.new counters.new ticks.new rows.new threads.new ≡ leaves (step wide (setting_of setting.now) seeds.now (found head.old counters.old ticks.old rows.old threads.old) (index tick bank thread)) out.old head.old }
 {
-    wide::other_calls::index(
-        setting, seeds, head, counters, ticks, rows, threads, tick, bank, thread, out,
-    )
+    let at = Named { tick, bank, thread };
+    code(calls::other_calls::index(
+        setting, seeds, head, counters, ticks, rows, threads, at, out,
+    ))
 }
 
 // The change-over of a saved state with 16-bit counters to 32-bit ones: the used part of the new counters becomes the old counters, as numbers.

@@ -1,6 +1,7 @@
 // The throttle for C: libthrottle.a. Each call is the function of the same name of the crate `throttle`, under the same contract: set-up, request, done and
 // index with 16-bit filter counters, the same with 32-bit ones, and the change-over from one to the other. Every call returns 0 when it answered, and else
 // the number of its refusal; a refused call changes nothing that was lent. Of buffers that overlap nothing is promised.
+// Kept: a function for each width, since C calls each by its name (C interface).
 #![tactic(auto)]
 
 ghost use Rattle.std.specs.Prelude.{◌≡◌, []};

@@ -1,11 +1,6 @@
--- `take_over` meets its contract. The invariant: the first i counters are copied, the others are as they were.
-use Prim.Native.Nat.{◌-◌, ◌≤◌}
-use mathlib.Core.Path.{◌≡◌}
-use Rattle.widths.specs.ChangeOver.{copied}
+-- `take_over` meets its contract. The invariant: the first i counters are copied.
+use Rattle.std.proofs.Common.{◌≡◌, ℕ, ◌<◌, get_or}
 use Rattle.change_over.proofs.take_over.Given as goal
 
 abbrev pub invariant-loop-i : goal.invariant-loop-i
-invariant-loop-i l = (l.i ≤ l.used) × (l.counters ≡ copied l.i l.old l.initial.counters)
-
-abbrev pub decreases-loop-i : goal.decreases-loop-i
-decreases-loop-i l = l.used - l.i
+invariant-loop-i l = (j : ℕ) → j < l.i → get_or l.c-items j 0 ≡ get_or l.old j 0

@@ -1,21 +1,19 @@
 -- The records of a block one by one.
-use mathlib.Core.Path.{◌≡◌, refl, ◌∙◌}
+use mathlib.Core.Path.{◌≡◌, refl, sym, ap, ◌∙◌}
 use mathlib.Core.List.{List}
-use mathlib.Core.Bool.{true, false}
+use Rattle.std.specs.Prelude.{Ok, Err}
 use Prim.Native.Nat.{ℕ, ◌+◌, ◌-◌, ◌≤◌, ◌<◌}
 use native.Mathlib.Omega.{arith}
-use Rattle.head.specs.declared.Head.{Head}
 use Rattle.rules.specs.declared.Setting.{Setting}
 use Rattle.rules.specs.State.{State}
 use Rattle.rules.specs.Tested.{Sound}
 use Rattle.log_format.specs.declared.Entry.{Entry}
 use Rattle.log_format.specs.Contents.{entry_in, entries_from}
-use Rattle.log_format.specs.Verdict.{Running, Step, on, judge_record, judge_records}
+use Rattle.log_format.specs.Verdict.{Running, Step, on, and_then, judge_record, judge_records}
 use Rattle.log_format.proofs.Steps.{records_step}
 use Rattle.tally.specs.declared.Progress.{Progress}
 use Rattle.tally.specs.declared.Report.{Report}
-use Rattle.tally.specs.declared.After.{After}
-use Rattle.judge.specs.Follow.{running, Follows, Judged}
+use Rattle.judge.specs.Follow.{running, Judged}
 use Rattle.judge.proofs.judged.Steps.{over_then, on_then}
 use Rattle.rules.specs.Policy.{narrow}
 
@@ -38,58 +36,53 @@ module _ (s : Setting) (seeds block : List ℕ) (p : Progress) (n : ℕ) (start 
       let z : n - 0 ≡ n = omega arith in
       record { rest = rw z refl; sound = ok; blocks = refl; records = omega arith; opened = omega arith; last = omega arith }
 
-  module _ (k : ℕ) (q : Progress) (st : State) (g : Going k q st) (more : k < n) (e : Entry) (is : e ≡ entry_in block k) (r : After) (left : State)
-      (j : Judged s seeds q 1 r left (judge_record narrow (running q s seeds st) e)) where
+  module _ (k : ℕ) (q : Progress) (st : State) (g : Going k q st) (more : k < n) (e : Entry) (is : e ≡ entry_in block k) (left : State) where
     -- the rest, by the step of record k
     after_one : Running → Step
     after_one y = judge_records narrow y (entries_from block (k + 1) (n - k - 1))
 
-    follows_one : Follows r.over r.report (running r.progress s seeds left) (judge_record narrow (running q s seeds st) (entry_in block k))
-    follows_one = rw is at j.follows
-
-    pub going_more : r.over ≡ false → Going (k + 1) r.progress left
+    by_one : whole ≡ and_then (judge_record narrow (running q s seeds st) e) after_one
     unfolding after_one
-    going_more e =
+    by_one =
+        g.rest
+        ∙ records_step narrow (running q s seeds st) block k (n - k) (omega arith)
+        ∙ ap (λ (d : Entry). and_then (judge_record narrow (running q s seeds st) d) after_one) (sym is)
+
+    pub going_more : (r : Progress) → Judged s seeds q 1 (Ok r) left (judge_record narrow (running q s seeds st) e) → Going (k + 1) r left
+    unfolding after_one
+    going_more r j =
         let z : n - (k + 1) ≡ n - k - 1 = omega arith in
         record {
-          rest =
-              g.rest
-              ∙ records_step narrow (running q s seeds st) block k (n - k) (omega arith)
-              ∙ on_then r.over r.report (running r.progress s seeds left) (judge_record narrow (running q s seeds st) (entry_in block k)) after_one follows_one e
-              ∙ rw z refl;
+          rest = by_one ∙ on_then (running r s seeds left) (judge_record narrow (running q s seeds st) e) after_one j.follows ∙ rw z refl;
           sound = j.sound;
           blocks = j.blocks ∙ g.blocks;
-          records = omega arith;
-          opened = omega arith;
-          last = omega arith;
+          records = omega (arith, j.records, g.records);
+          opened = omega (arith, j.opened, g.opened);
+          last = omega (arith, j.last, g.last);
         }
 
-    pub going_over : r.over ≡ true → n ≤ 20 → Judged s seeds p 20 r left whole
+    pub going_over : (d : Report) → Judged s seeds q 1 (Err d) left (judge_record narrow (running q s seeds st) e) → Judged s seeds p 20 (Err d) left whole
     unfolding after_one
-    going_over e m =
+    going_over d j =
         record {
-          follows =
-              rw (g.rest ∙ records_step narrow (running q s seeds st) block k (n - k) (omega arith))
-              (over_then r.over r.report (running r.progress s seeds left) (running r.progress s seeds left)
-              (judge_record narrow (running q s seeds st) (entry_in block k)) after_one follows_one e);
+          follows = rw by_one (over_then d (judge_record narrow (running q s seeds st) e) after_one j.follows);
           sound = j.sound;
-          blocks = j.blocks ∙ g.blocks;
-          records = omega arith;
-          opened = omega arith;
-          last = omega arith;
+          blocks = tt;
+          records = tt;
+          opened = tt;
+          last = tt;
         }
 
-  pub going_all : (k : ℕ) (q : Progress) (st : State) (report : Report) (h : Head) → Going k q st → k ≡ n → n ≤ 20
-      → Judged s seeds p 20 (record { over = false; report = report; progress = q; head = h }) st whole
+  pub going_all : (k : ℕ) (q : Progress) (st : State) → Going k q st → k ≡ n → n ≤ 20 → Judged s seeds p 20 (Ok q) st whole
   unfolding judge_records
-  going_all k q st report h g e m =
+  going_all k q st g e m =
       let z : n - k ≡ 0 = omega arith in
       let r : whole ≡ on (running q s seeds st) = g.rest ∙ rw z refl in
       record {
-        follows = rw r (refl, refl);
+        follows = rw r refl;
         sound = g.sound;
         blocks = g.blocks;
-        records = omega arith;
-        opened = omega arith;
-        last = omega arith;
+        records = omega (arith, g.records);
+        opened = omega (arith, g.opened);
+        last = omega (arith, g.last);
       }

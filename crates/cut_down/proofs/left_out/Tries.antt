@@ -2,24 +2,24 @@
 use mathlib.Core.Path.{◌≡◌, sym, ap, ◌∙◌}
 use mathlib.Core.List.{List}
 use mathlib.Core.Bool.{Bool, true, false}
-use Prim.Native.Nat.{ℕ, ◌-◌, ◌/◌, ◌%◌, ◌^◌, ◌<◌}
+use Prim.Native.Nat.{ℕ, ◌-◌, ◌/◌, ◌%◌, ◌^◌, ◌≤◌, ◌<◌}
 use native.Mathlib.Omega.{arith}
-use borrow.Author.Tests.{eq-eqb, ne_eqb}
+use borrow.Author.Tests.{eqb-true}
 use Rattle.cut_rules.specs.selections.Selections.{stays, tried, bits}
-use Rattle.cut_rules.proofs.selections.Words.{bits_stays, bits_less}
+use Rattle.cut_rules.proofs.selections.Words.{bits_stays, bits_less, bit_le}
 use Rattle.cut_rules.proofs.selections.Passes.{tried_gone, tried_out, tried_needed}
 
 module _ (test : List Bool → Bool) (n : ℕ) where
   module _ (i m : ℕ) (h : i < n) where
-    pub try_gone : m / 2 ^ i % 2 ≡ 0 → bits n m ≡ tried test i (bits n m)
-    try_gone e = sym (tried_gone test i (bits n m) (bits_stays n m i h ∙ ne_eqb (m / 2 ^ i % 2) 1 (λ z. omega arith)))
+    pub try_gone : stays (bits n m) i ≡ false → bits n m ≡ tried test i (bits n m)
+    try_gone e = sym (tried_gone test i (bits n m) e)
 
-    module _ (some : m / 2 ^ i % 2 ≡ 0 → ⊥) where
+    module _ (there : stays (bits n m) i ≡ true) where
       here : m / 2 ^ i % 2 ≡ 1
-      here = omega (arith, some)
+      here = eqb-true (m / 2 ^ i % 2) 1 (sym (bits_stays n m i h) ∙ there)
 
-      there : stays (bits n m) i ≡ true
-      there = bits_stays n m i h ∙ eq-eqb (m / 2 ^ i % 2) 1 here
+      pub try_fits : 2 ^ i ≤ m
+      try_fits = let e = here in bit_le i m (λ z. omega arith)
 
       pub try_out : test (bits n (m - 2 ^ i)) ≡ true → bits n (m - 2 ^ i) ≡ tried test i (bits n m)
       try_out e = let l = bits_less n m i h here in l ∙ sym (tried_out test i (bits n m) there (ap test (sym l) ∙ e))

@@ -13,7 +13,7 @@ returns-then-v-s c = simp (lt-leb _ _ c.if-v-gaps.false, lt-ltb _ _ c.if-gaps-v.
 
 pub returns-then-v-s-2 : goal.returns-then-v-s-2
 unfolding closed_tick
-returns-then-v-s-2 c = simp (lt-leb _ _ c.if-v-gaps.false, lt-ltb _ _ c.if-gaps-v.true, le-ltb _ _ c.if-v-s.false, lt-ltb _ _ c.if-v-s-2.true, c.sooner.ensures)
+returns-then-v-s-2 c = simp (lt-leb _ _ c.if-v-gaps.false, lt-ltb _ _ c.if-gaps-v.true, le-ltb _ _ c.if-v-s.false, lt-ltb _ _ c.if-v-s-2.true, c.min.ensures)
 
 pub returns-then-gaps-v : goal.returns-then-gaps-v
 unfolding closed_tick

@@ -15,6 +15,7 @@ use Rattle.rules.proofs.Tests.{cond_yes}
 use Rattle.rules.proofs.Cells.{get_or_map_cells, map_same, store_map}
 use Rattle.rules.proofs.Filter.{member_map, member_cell}
 use Rattle.filter.specs.raise.Changes.{raised_at}
+use Rattle.filter.proofs.Numbers.{numbers_stored}
 
 -- ---- the counters of a list of cells
 
@@ -60,17 +61,19 @@ within_place at (suc (suc (suc (suc k)))) w h = absurd (omega arith)
 pub within_all : (at : List ℕ) → length at ≡ 4 → Within at → All (λ p. p < 1024) at
 within_all at e w = subst (λ l. All (λ p. p < 1024) l) (list_of_four at e) (w.first, (w.second, (w.third, (w.fourth, tt))))
 
--- the stores of the code, against the row's cells in filter f of a bank
-pub row_raised : (n bank f : ℕ) (at cs : List ℕ) (v0 v1 v2 v3 : ℕ) → length at ≡ 4 → Within at → f < 2 → bank * 2048 + 2048 ≤ length cs
-    → v0 ≡ raised n (counter_at cs bank f at 0) → v1 ≡ raised n (counter_at cs bank f at 1)
-    → v2 ≡ raised n (counter_at cs bank f at 2) → v3 ≡ raised n (counter_at cs bank f at 3)
-    → set (set (set (set cs (counter_cell bank f (get_or at 3 0)) v3) (counter_cell bank f (get_or at 2 0)) v2) (counter_cell bank f (get_or at 1 0)) v1) (counter_cell bank f (get_or at 0 0)) v0
-    ≡ raised_at n (map (counter_cell bank f) at) cs
-row_raised n bank f at cs v0 v1 v2 v3 four w hf long e0 e1 e2 e3 =
+-- the stores of the code, against the row's cells in filter f of a bank; value is the number that a counter holds
+pub row_raised : {A : Type 0} (value : A → ℕ) (n bank f : ℕ) (at : List ℕ) (cs : List A) (v0 v1 v2 v3 : A) → length at ≡ 4 → Within at → f < 2
+    → bank * 2048 + 2048 ≤ length (map value cs)
+    → value v0 ≡ raised n (counter_at (map value cs) bank f at 0) → value v1 ≡ raised n (counter_at (map value cs) bank f at 1)
+    → value v2 ≡ raised n (counter_at (map value cs) bank f at 2) → value v3 ≡ raised n (counter_at (map value cs) bank f at 3)
+    → map value (set (set (set (set cs (counter_cell bank f (get_or at 3 0)) v3) (counter_cell bank f (get_or at 2 0)) v2) (counter_cell bank f (get_or at 1 0)) v1) (counter_cell bank f (get_or at 0 0)) v0)
+    ≡ raised_at n (map (counter_cell bank f) at) (map value cs)
+row_raised value n bank f at cs v0 v1 v2 v3 four w hf long e0 e1 e2 e3 =
     let k : ℕ → ℕ = λ j. counter_cell bank f (get_or at j 0) in
-    raised_four n cs (k 0) (k 1) (k 2) (k 3) v0 v1 v2 v3
+    numbers_stored value cs (k 0) (k 1) (k 2) (k 3) v0 v1 v2 v3
+    ∙ raised_four n (map value cs) (k 0) (k 1) (k 2) (k 3) (value v0) (value v1) (value v2) (value v3)
     (omega (arith, w.first)) (omega (arith, w.second)) (omega (arith, w.third)) (omega (arith, w.fourth)) e0 e1 e2 e3
-    ∙ ap (λ l. raised_at n (map (counter_cell bank f) l) cs) (list_of_four at four)
+    ∙ ap (λ l. raised_at n (map (counter_cell bank f) l) (map value cs)) (list_of_four at four)
 
 -- ---- the estimate after the stores
 

@@ -1,17 +1,21 @@
 -- Clearing: a run of cells, a filter in all banks, and what a turn of the epoch clears, against the rules' `turned_counters`.
-use mathlib.Core.Path.{◌≡◌, ap, ◌∙◌}
+use mathlib.Core.Path.{◌≡◌, refl, ap, ◌∙◌, subst}
 use mathlib.Core.Logic.{◌⊎◌, inl, inr}
-use mathlib.Core.List.{List}
-use mathlib.Core.Bool.{Bool, ◌||◌}
-use Prim.Native.Nat.{ℕ, ◌+◌, ◌*◌, ◌/◌, ◌%◌, ◌≤◌, ◌<◌}
+use mathlib.Core.List.{List, map}
+use mathlib.Core.Bool.{Bool, true, false, ◌||◌, cond}
+use Prim.Native.Nat.{ℕ, ◌+◌, ◌-◌, ◌*◌, ◌/◌, ◌%◌, ◌≤◌, ◌<◌}
 use native.Mathlib.Omega.{arith}
 use native.Mathlib.Decide.{dec_lt}
 use lib.Dec.{T, leb, ltb, leb→le, le→leb, ltb→lt, lt→ltb}
-use lib.ListN.{length, set}
+use lib.ListN.{length, get_or}
+use borrow.Rule.Slice.PartMut.{put_mid}
+use borrow.Author.Rules.{rules}
+use Rattle.std.proofs.lemmas.List.{places, length-map, map-append, take-map, drop-map}
 use Rattle.rules.specs.Cells.{clear_cells}
 use Rattle.rules.specs.Clock.{turned_counters}
-use Rattle.rules.proofs.Tests.{and_i, and_l, and_r, or_l, or_r, or_e, same_test, lt_eq_facts, lt_eq_test}
-use Rattle.rules.proofs.Clearing.{clear_same, clear_clear, Cleared, cleared_none, cleared_more}
+use Rattle.rules.proofs.Tests.{and_i, and_l, and_r, or_l, or_r, or_e, holds, same_test, lt_eq_facts, lt_eq_test}
+use Rattle.rules.proofs.Cells.{is_map_cells}
+use Rattle.rules.proofs.Clearing.{clear_same, clear_clear, Cleared, cleared_none}
 use Rattle.rules.proofs.Clock.{turn_one, turn_both}
 use Rattle.filter.specs.turn.Changes.{in_run, in_filter}
 
@@ -35,17 +39,36 @@ is_filter banks f i h e = lt_eq_test i (banks * 2048) (i / 1024 % 2) f h e
 
 -- ---- a run of cells
 
-pub run_none : (start n : ℕ) (old : List ℕ) → Cleared (in_run start) n old 0 old
-run_none start n old = cleared_none (in_run start) n old (λ j t. omega (arith, in_run_lem start 0 j t))
+out_of_run : (start n i : ℕ) → in_run start n i ≡ false → start ≤ i → start + n ≤ i
+out_of_run start n i e h = go (dec_lt i (start + n))
+  where
+    go : Dec (i < start + n) → start + n ≤ i
+    go (yes k) = absurd (subst (λ b. T b) e (is_run start n i h k))
+    go (no k) = omega arith
 
-pub run_more : (start : ℕ) {n : ℕ} {old : List ℕ} {i : ℕ} {new : List ℕ} → Cleared (in_run start) n old i new → i < n → start + n ≤ length old
-    → Cleared (in_run start) n old (i + 1) (set new (start + i) 0)
-run_more start {i = i} c hi long =
-    cleared_more c (start + i) hi (omega arith) (is_run start (i + 1) (start + i) (omega arith) (omega arith))
-    (λ j p.
-    same_test (in_run start i j) (in_run start (i + 1) j)
-    (λ t. let k = in_run_lem start i j t in is_run start (i + 1) j (omega arith) (omega arith))
-    (λ t. let k = in_run_lem start (i + 1) j t in is_run start i j (omega arith) (omega arith)))
+-- a list in whose place from start on stand n cells of 0
+run_filled : (start k n : ℕ) (cs run : List ℕ) → k ≡ n → length run ≡ n → start + n ≤ length cs → ((j : ℕ) → j < n → get_or run j 0 ≡ 0)
+    → put_mid start k cs run ≡ clear_cells (in_run start n) cs
+run_filled start k n cs run ek long fits zeros =
+    is_map_cells (λ i c. cond (in_run start n i) 0 c) (put_mid start k cs run) cs (search (rules, places))
+    (λ j h. cell j h (in_run start n j) refl (dec_lt j start))
+  where
+    cell : (j : ℕ) → j < length cs → (b : Bool) → in_run start n j ≡ b → Dec (j < start) → get_or (put_mid start k cs run) j 0 ≡ cond b 0 (get_or cs j 0)
+    cell j h true e d =
+        let w = in_run_lem start n j (holds _ e) in
+        let z : get_or run (j - start) 0 ≡ 0 = zeros (j - start) (omega arith) in
+        grind (arith, places)
+    cell j h false e (yes p) = grind (arith, places)
+    cell j h false e (no p) =
+        let w : start + n ≤ j = out_of_run start n j e (omega arith) in
+        grind (arith, places)
+
+-- the same of counters, by their numbers: in the place from start on stand n cleared counters
+pub run_cleared : {A : Type 0} (value : A → ℕ) (start k n : ℕ) (cs run : List A) → k ≡ n → length run ≡ n → start + n ≤ length cs
+    → ((j : ℕ) → j < n → get_or (map value run) j 0 ≡ 0) → map value (put_mid start k cs run) ≡ clear_cells (in_run start n) (map value cs)
+run_cleared value start k n cs run ek long fits zeros =
+    let parts : map value (put_mid start k cs run) ≡ put_mid start k (map value cs) (map value run) = simp (map-append, take-map, drop-map) in
+    parts ∙ run_filled start k n (map value cs) (map value run) ek (simp length-map long) (simp length-map fits) zeros
 
 -- the run from cell 0 on
 pub run_used : (used : ℕ) (cs : List ℕ) → clear_cells (in_run 0 used) cs ≡ clear_cells (λ i. ltb i used) cs

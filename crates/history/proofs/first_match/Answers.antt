@@ -1,10 +1,7 @@
 -- `first_match` meets its contract. The invariant: what is to be found is found from place p on.
-use Rattle.std.proofs.Common.{◌-◌, ◌<◌, T, get_or, sym, ◌∙◌, arith}
-use Rattle.rules.specs.Cells.{every}
-use Rattle.rules.specs.History.{not_after, never_rises}
-use Rattle.rules.proofs.Tests.{holds}
+use Rattle.std.proofs.Common.{◌-◌, ◌<◌, sym, ◌∙◌, arith}
 use Rattle.rules.proofs.Ring.{back_lt}
-use Rattle.history.proofs.Search.{first_part, Onward, wraps, steps, back_more, whole, on_at, none_at, old_at, hit_at}
+use Rattle.history.proofs.Search.{first_part, Onward, wraps, steps, back_more, whole, on_at, none_at, old_at, hit_at, found_none, found_some}
 use Rattle.history.proofs.first_match.Goals as goal
 use Rattle.history.proofs.first_match.Goals.{then-p-low+else-low-next, else-p-low}
 
@@ -12,18 +9,6 @@ pub loop-p-init : goal.loop-p-init
 loop-p-init c =
     let a = c.args in
     (c.place_before-p.ensures.1, first_part a.h a.next c.place_before-p.result (omega arith) c.place_before-p.ensures.0, whole a.h a.td a.next a.ticks.now a.rows.now a.word a.t (omega arith) c.place_before-p.result c.place_before-p.ensures.0)
-
-pub overflow_sub-p : goal.overflow_sub-p
-overflow_sub-p c =
-    let a = c.args in
-    let l = c.loop-p in
-    let o : Onward a.h a.next l.p c.if-p-low.p c.if-p-low.low =
-    elim c.if-p-low.branch [
-      | then-p-low+else-low-next w ↦ wraps a.h a.next l.p l.low c.if-p-low.p c.if-p-low.low (omega arith) l.invariant.0 l.invariant.1 w.if-p-low.true w.if-low-next.false w.p-is w.low-is
-      | else-p-low w ↦ steps a.h a.next l.p l.low c.if-p-low.p c.if-p-low.low (omega arith) l.invariant.0 l.invariant.1 w.if-p-low.false w.p-is w.low-is
-    ]
-    in
-    o.some
 
 pub loop-p-smaller : goal.loop-p-smaller
 loop-p-smaller c =
@@ -57,19 +42,15 @@ loop-p-preserved c =
 
 pub returns-then-ticks-p : goal.returns-then-ticks-p
 returns-then-ticks-p c =
-    let steady : T (never_rises c.args.h c.args.next c.args.ticks.now) = holds (never_rises c.args.h c.args.next c.args.ticks.now) c.requires.4 in
-    let past : T (every c.args.h (λ q. not_after c.args.t (get_or c.args.ticks.now q 0))) = holds (every c.args.h (λ q. not_after c.args.t (get_or c.args.ticks.now q 0))) c.requires.5 in
     let a = c.args in
-    (sym (old_at a.h a.td a.next a.ticks.now a.rows.now a.word a.t (omega arith) c.loop-p.p c.loop-p.invariant.0 c.old_limit-limit.result c.old_limit-limit.ensures steady past c.if-ticks-p.true) ∙ c.loop-p.invariant.2, omega arith)
+    (found_none a.h _ (sym c.loop-p.invariant.2 ∙ old_at a.h a.td a.next a.ticks.now a.rows.now a.word a.t (omega arith) c.loop-p.p c.loop-p.invariant.0 c.saturating_sub-limit.result c.saturating_sub-limit.ensures c.requires.4 c.requires.5 c.if-ticks-p.true), tt)
 
 pub returns-then-rows-p : goal.returns-then-rows-p
 returns-then-rows-p c =
-    let steady : T (never_rises c.args.h c.args.next c.args.ticks.now) = holds (never_rises c.args.h c.args.next c.args.ticks.now) c.requires.4 in
-    let past : T (every c.args.h (λ q. not_after c.args.t (get_or c.args.ticks.now q 0))) = holds (every c.args.h (λ q. not_after c.args.t (get_or c.args.ticks.now q 0))) c.requires.5 in
     let a = c.args in
-    (sym (hit_at a.h a.td a.next a.ticks.now a.rows.now a.word a.t (omega arith) c.loop-p.p c.loop-p.invariant.0 c.old_limit-limit.result c.old_limit-limit.ensures steady past c.if-ticks-p.false c.if-rows-p.true) ∙ c.loop-p.invariant.2, omega arith)
+    (found_some a.h c.loop-p.p _ (sym c.loop-p.invariant.2 ∙ hit_at a.h a.td a.next a.ticks.now a.rows.now a.word a.t (omega arith) c.loop-p.p c.loop-p.invariant.0 c.saturating_sub-limit.result c.saturating_sub-limit.ensures c.requires.4 c.requires.5 c.if-ticks-p.false c.if-rows-p.true) c.loop-p.invariant.0, c.loop-p.invariant.0)
 
 pub returns-then-low-next : goal.returns-then-low-next
 returns-then-low-next c =
     let a = c.args in
-    (sym (none_at a.h a.td a.next a.ticks.now a.rows.now a.word a.t (omega arith) c.loop-p.p c.loop-p.invariant.0 (c.if-p-low.true ∙ c.if-low-next.true) c.if-rows-p.false) ∙ c.loop-p.invariant.2, omega arith)
+    (found_none a.h _ (sym c.loop-p.invariant.2 ∙ none_at a.h a.td a.next a.ticks.now a.rows.now a.word a.t (omega arith) c.loop-p.p c.loop-p.invariant.0 (c.if-p-low.true ∙ c.if-low-next.true) c.if-rows-p.false), tt)

@@ -1,5 +1,5 @@
 -- A block's test by or-ed differences: small differences wrap at most once, and then the last cell is below the first.
-use Rattle.std.proofs.Common.{◌≡◌, ℕ, ◌+◌, ◌*◌, ◌%◌, ◌^◌, ◌<◌, ◌≤◌, T, ◌⊎◌, List, get_or, sym, ◌∙◌, inl, inr, lt_of_le_of_lt, mod-eq_of_lt, arith}
+use Rattle.std.proofs.Common.{◌≡◌, ℕ, ◌+◌, ◌-◌, ◌*◌, ◌%◌, ◌^◌, ◌<◌, ◌≤◌, T, ◌⊎◌, List, get_or, Fits, w64, sym, ◌∙◌, inl, inr, lt_of_le_of_lt, mod-eq_of_lt, arith}
 use native.Mathlib.Decide.{dec_lt}
 use lib.Bits.{bit_or, or_add_and, and_le_r, or_comm}
 use Rattle.history.specs.Runs.{never_falls}
@@ -35,13 +35,18 @@ near_one ticks i k d n e h = go n (dec_lt (d + get_or ticks (i + k) 0) (2 ^ 64))
     go (inl (t, le)) (no l) = inr (rw next (omega (arith, e, le, h)))
     go (inr lt) l = inr (rw next (omega (arith, e, lt, h)))
 
--- the same where d is or-ed to the differences before
-pub near_more : (ticks : List ℕ) (i k all d : ℕ) → (all < 2 ^ 58 → Near ticks i k)
-    → (d + get_or ticks (i + k) 0) % 2 ^ 64 ≡ get_or ticks (i + k + 1) 0
-    → bit_or all d < 2 ^ 58 → Near ticks i (k + 1)
-near_more ticks i k all d f e h =
-    let o = or_parts all d (2 ^ 58) h in
-    near_one ticks i k d (f o.0) e o.1
+-- the difference of two words, added to the second, is the first
+unwrapped : (x y : ℕ) → x < 2 ^ 64 → y < 2 ^ 64 → ((x + (2 ^ 64 - y)) % 2 ^ 64 + y) % 2 ^ 64 ≡ x
+unwrapped x y h k = omega arith
+
+-- the same where the difference is or-ed to those before
+pub near_more : (ticks : List ℕ) (i k all : ℕ) → (all < 2 ^ 58 → Near ticks i k) → ((j : ℕ) → Fits w64 (get_or ticks j 0))
+    → bit_or all ((get_or ticks (i + k + 1) 0 + (2 ^ 64 - get_or ticks (i + k) 0)) % 2 ^ 64) < 2 ^ 58 → Near ticks i (k + 1)
+near_more ticks i k all f fits h =
+    let new = get_or ticks (i + k + 1) 0 in
+    let old = get_or ticks (i + k) 0 in
+    let o = or_parts all ((new + (2 ^ 64 - old)) % 2 ^ 64) (2 ^ 58) h in
+    near_one ticks i k ((new + (2 ^ 64 - old)) % 2 ^ 64) (f o.0) (unwrapped new old (omega (arith, fits (i + k + 1))) (omega (arith, fits (i + k)))) o.1
 
 -- at most 64 differences that do not end below their first cell did not wrap
 pub near_all : (ticks : List ℕ) (i m : ℕ) → m ≤ 64 → get_or ticks i 0 ≤ get_or ticks (i + m) 0 → Near ticks i m → T (never_falls ticks i m)

@@ -1,15 +1,13 @@
--- Counters of the length that a call was given: what it finds with some of them, and that nothing is turned where it is refused.
-use Prim.Native.Nat.{ℕ, ◌*◌, ◌≤◌}
-use mathlib.Core.Path.{◌≡◌, sym}
+-- Counters of the length that a call was given, and what it finds with some of them.
+use Prim.Native.Nat.{ℕ, ◌≤◌}
+use mathlib.Core.Path.{◌≡◌}
 use mathlib.Core.List.{List}
 use native.Mathlib.Omega.{arith}
 use lib.ListN.{length, replicate, length-replicate}
 use Rattle.rules.specs.declared.Limits.{Limits}
 use Rattle.rules.specs.declared.Setting.{Setting}
 use Rattle.rules.specs.State.{State, counters_used}
-use Rattle.rules.specs.Clock.{turned_counters}
 use Rattle.rules.specs.Tested.{Taken}
-use Rattle.rules.proofs.Clock.{counters_none}
 use Rattle.interface.specs.Left.{found}
 
 -- some counters of the length
@@ -27,7 +25,3 @@ blank words n ticks rows threads = found words (some n) ticks rows threads
 pub room : (m : Limits) (s : Setting) (seeds words : List ℕ) (n : ℕ) (ticks rows threads : List ℕ) (tick bank thread : ℕ)
     → Taken m s seeds (blank words n ticks rows threads) tick bank thread → counters_used s ≤ n
 room m s seeds words n ticks rows threads tick bank thread k = omega (arith, k.long.counters, some_long n)
-
--- nothing is turned
-pub turns_nothing : (cs : List ℕ) → turned_counters (0 * 2048) 0 0 cs ≡ cs
-turns_nothing cs = sym (counters_none (0 * 2048) 0 0 cs (omega arith))

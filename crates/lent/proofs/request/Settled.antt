@@ -3,17 +3,19 @@ use Prim.Native.Nat.{ℕ, ◌+◌, ◌<◌}
 use mathlib.Core.Path.{◌≡◌, refl, sym, ap, ap₂, ◌∙◌}
 use mathlib.Core.Logic.{◌≢◌}
 use mathlib.Core.List.{List, [], ◌∷◌}
-use mathlib.Core.Bool.{false}
+use mathlib.Core.Bool.{Bool}
 use native.Mathlib.Omega.{arith}
 use lib.ListN.{length, get_or}
+use Rattle.std.specs.Prelude.{Result, Ok, Err, IfOk, IsErrAnd}
 use Rattle.head.specs.declared.Head.{Head}
 use Rattle.head.specs.Head.{moved_head}
-use Rattle.rules.specs.declared.Limits.{Limits}
 use Rattle.rules.specs.declared.Setting.{Setting}
+use Rattle.rules.specs.declared.Limits.{Limits}
 use Rattle.rules.specs.declared.Decision.{Decision}
 use Rattle.rules.specs.declared.Decision.TheVariants.{Open, Hold, OverQuota}
 use Rattle.rules.specs.declared.Answer.{Answer}
-use Rattle.rules.specs.Answers.{Refusal, none, refusal_number, answer_number, answer_wait, answer_left}
+use Rattle.rules.specs.Answers as rules
+use Rattle.rules.specs.Answers.{none, refusal_number, answer_number, answer_wait, answer_left}
 use Rattle.rules.specs.Setting.{setting_of, index_scale}
 use Rattle.rules.specs.State.{State, state, counters_used, threads_used, head_of, head_words, fresh}
 use Rattle.rules.specs.Clock.{epoch, active_filter, turned_counters, turned_threads, turned}
@@ -25,17 +27,38 @@ use Rattle.rules.specs.Calls.{request, done, index, Reply, refused, answered, fi
 use Rattle.rules.proofs.Accept.{number_none, taken}
 use Rattle.rules.proofs.Cells.{get_or_cells}
 use Rattle.rules.proofs.Step.{unless_taken, unless_refused_lem}
-use Rattle.refusal.specs.Tests.{lent_test, call_test, done_test}
-use Rattle.refusal.proofs.Refusals.{setup_test_lem, call_test_lem, done_test_lem, lent_setup}
+use Rattle.refused.specs.declared.Refusal.{Refusal}
+use Rattle.refused.specs.Numbers.{number_of, code_of}
+use Rattle.refused.specs.Passed.{passed}
+use Rattle.refused.proofs.Laws.{code_passed, number_some, passed_err}
+use Rattle.refusal.specs.Tests.{call_test}
+use Rattle.refusal.proofs.Refusals.{call_test_lem}
 use Rattle.interface.specs.Left.{Left, left, found, leaves}
 
--- a refused call gives its number and leaves all as it was
-pub left_refused : (r : Refusal) (o : Outcome) (code : ℕ) (out words counters ticks rows threads : List ℕ)
-    → code ≡ refusal_number r → code ≢ 0
-    → left code out words counters ticks rows threads ≡ leaves (unless_refused r (found words counters ticks rows threads) o) out words
+-- a call that is refused with r, whose number is c, gives it and leaves all as it was
+left_unless : (r : rules.Refusal) (o : Outcome) (c : ℕ) (out words counters ticks rows threads : List ℕ)
+    → c ≡ refusal_number r → refusal_number r ≢ 0
+    → left c out words counters ticks rows threads ≡ leaves (unless_refused r (found words counters ticks rows threads) o) out words
 unfolding leaves
-left_refused r o code out words counters ticks rows threads e h =
-    rw (unless_refused_lem r (found words counters ticks rows threads) o (λ z. h (e ∙ z)), e)
+left_unless r o c out words counters ticks rows threads e h = rw (unless_refused_lem r (found words counters ticks rows threads) o h, e)
+
+-- the same, by the name of the refusal that the tests give
+pub left_refused : (r : rules.Refusal) (o : Outcome) (x y : Refusal) (out words counters ticks rows threads : List ℕ)
+    → passed r ≡ Err x → y ≡ x
+    → left (number_of y) out words counters ticks rows threads ≡ leaves (unless_refused r (found words counters ticks rows threads) o) out words
+left_refused r o x y out words counters ticks rows threads e h =
+    left_unless r o (number_of y) out words counters ticks rows threads (ap number_of h ∙ sym (ap code_of e) ∙ code_passed r) (passed_err r x e)
+
+-- the number of what is given back
+pub code_up : {A : Type 0} (r : rules.Refusal) (back : Result A Refusal) (x : Refusal) → passed r ≡ Err x → IsErrAnd back (λ y. y ≡ x)
+    → code_of back ≡ refusal_number r
+code_up r (Ok a) x e h = absurd h
+code_up r (Err y) x e h = ap number_of h ∙ sym (ap code_of e) ∙ code_passed r
+
+-- what holds of a value holds of none where a call is refused
+pub not_ok : {A : Type 0} (back : Result A Refusal) (x : Refusal) (P : A → Type 0) → IsErrAnd back (λ y. y ≡ x) → IfOk back P
+not_ok (Ok a) x P h = absurd h
+not_ok (Err y) x P h = tt
 
 -- a head whose clock was moved, by its own last tick
 pub moved_alone : (x h : Head) (t : ℕ) → h ≡ moved_head x t → h ≡ moved_head x h.last
@@ -48,11 +71,11 @@ unfolding head_of
 bank_word words bank h = sym (get_or_cells words 2 16 bank h)
 
 -- the number of a reply's answer
-abbrev number_of : Reply → ℕ
-number_of (refused r) = 0
-number_of (answered a) = answer_number a
-number_of finished = 0
-number_of (shown c scale quota) = 0
+abbrev reply_number : Reply → ℕ
+reply_number (refused r) = 0
+reply_number (answered a) = answer_number a
+reply_number finished = 0
+reply_number (shown c scale quota) = 0
 
 -- ---- the four calls
 
@@ -60,28 +83,12 @@ module _ (m : Limits) (s : Setting) (seeds words counters ticks rows threads : L
   abbrev before : State
   before = found words counters ticks rows threads
 
-  -- the number that the tests of what was lent give is that of the rules' refusal: of set-up, of a request or an index reading, of a done
-  pub setup_code : (code : ℕ) → code ≡ refusal_number (lent_test m s seeds (head_of words) (length counters) ticks (length rows) (length threads) false)
-      → code ≡ refusal_number (setup_refusal m s seeds before)
-  setup_code code e =
-      e ∙ ap refusal_number (lent_setup m s seeds (head_of words) (length counters) ticks (length rows) (length threads) ∙ sym (setup_test_lem m s seeds before))
-
-  pub call_code : (tick bank thread code : ℕ)
-      → code ≡ refusal_number (call_test m s seeds (head_of words) (length counters) ticks (length rows) (length threads) tick bank thread)
-      → code ≡ refusal_number (call_refusal m s seeds before tick bank thread)
-  call_code tick bank thread code e = e ∙ ap refusal_number (sym (call_test_lem m s seeds before tick bank thread))
-
-  pub done_code : (tick bank thread code : ℕ)
-      → code ≡ refusal_number (done_test m s seeds (head_of words) (length counters) ticks (length rows) threads tick bank thread)
-      → code ≡ refusal_number (done_refusal m s seeds before tick bank thread)
-  done_code tick bank thread code e = e ∙ ap refusal_number (sym (done_test_lem m s seeds before tick bank thread))
-
   -- set-up that is not refused
-  pub left_setup : refusal_number (setup_refusal m s seeds before) ≡ 0 → (z : State) → z ≡ fresh s before
+  pub left_setup : setup_refusal m s seeds before ≡ none → (z : State) → z ≡ fresh s before
       → left 0 [] (head_words z.head) z.counters z.ticks z.rows z.threads ≡ leaves (setup m s seeds before) [] words
   unfolding leaves setup
   left_setup e z ez =
-      ap (λ o. leaves o [] words) (ap (outcome finished) ez ∙ sym (unless_taken (setup_refusal m s seeds before) before (outcome finished (fresh s before)) e))
+      ap (λ o. leaves o [] words) (ap (outcome finished) ez ∙ sym (unless_taken (setup_refusal m s seeds before) before (outcome finished (fresh s before)) (ap refusal_number e)))
 
   -- a request that is not refused and opens no row moves the clock alone
   pub held : (tick bank thread row : ℕ) (a : Answer) (z : State)
@@ -92,7 +99,7 @@ module _ (m : Limits) (s : Setting) (seeds words counters ticks rows threads : L
       let at : ℕ → List ℕ = λ f. places seeds row in
       let moved = turned s before tick in
       moved_alone (head_of words) z.head tick
-      (ap (λ o. o.state.head) e ∙ go (decide (in_force m) s at moved bank thread row) _ (λ k. n (ap (λ o. number_of o.reply) e ∙ k)))
+      (ap (λ o. o.state.head) e ∙ go (decide (in_force m) s at moved bank thread row) _ (λ k. n (ap (λ o. reply_number o.reply) e ∙ k)))
     where
       go : (d : Decision) (left : ℕ) → answer_number (answer_of d left) ≢ 0
           → (after_decision d (turned s before tick) (activated s (λ f. places seeds row) (turned s before tick) bank thread row)).head ≡ moved_head (head_of words) tick
@@ -101,26 +108,26 @@ module _ (m : Limits) (s : Setting) (seeds words counters ticks rows threads : L
       go OverQuota left k = refl
 
   -- a request that is not refused
-  pub left_request : (tick bank thread row : ℕ) (out : List ℕ) → refusal_number (call_refusal m s seeds before tick bank thread) ≡ 0
+  pub left_request : (tick bank thread row : ℕ) (out : List ℕ) → call_refusal m s seeds before tick bank thread ≡ none
       → (a : Answer) (z : State) → outcome (answered a) z ≡ requested (in_force m) s (λ f. places seeds row) (turned s before tick) bank thread row
       → left 0 (answer_number a ∷ answer_wait a ∷ answer_left a ∷ []) (head_words z.head) z.counters z.ticks z.rows z.threads
       ≡ leaves (step (in_force m) s seeds before (request tick bank thread row)) out words
   unfolding leaves step
   left_request tick bank thread row out e a z ez =
-      ap (λ o. leaves o out words) (ez ∙ sym (unless_taken (call_refusal m s seeds before tick bank thread) before (requested (in_force m) s (λ f. places seeds row) (turned s before tick) bank thread row) e))
+      ap (λ o. leaves o out words) (ez ∙ sym (unless_taken (call_refusal m s seeds before tick bank thread) before (requested (in_force m) s (λ f. places seeds row) (turned s before tick) bank thread row) (ap refusal_number e)))
 
   -- a done that is not refused
-  pub left_done : (tick bank thread : ℕ) → refusal_number (done_refusal m s seeds before tick bank thread) ≡ 0
+  pub left_done : (tick bank thread : ℕ) → done_refusal m s seeds before tick bank thread ≡ none
       → (h : Head) (c th : List ℕ) → h ≡ moved_head (head_of words) tick
       → c ≡ turned_counters (counters_used s) (epoch s (head_of words).last) (epoch s tick) counters
       → th ≡ one_less s bank thread (turned_threads (threads_used s) (epoch s (head_of words).last) (epoch s tick) threads)
       → left 0 [] (head_words h) c ticks rows th ≡ leaves (step (in_force m) s seeds before (done tick bank thread)) [] words
   unfolding leaves step reported turned
   left_done tick bank thread e h c th eh ec eth =
-      rw (unless_taken (done_refusal m s seeds before tick bank thread) before (reported s (turned s before tick) bank thread) e, eh, ec, eth)
+      rw (unless_taken (done_refusal m s seeds before tick bank thread) before (reported s (turned s before tick) bank thread) (ap refusal_number e), eh, ec, eth)
 
   -- an index reading that is not refused
-  pub left_index : (tick bank thread : ℕ) (out : List ℕ) → refusal_number (call_refusal m s seeds before tick bank thread) ≡ 0
+  pub left_index : (tick bank thread : ℕ) (out : List ℕ) → call_refusal m s seeds before tick bank thread ≡ none
       → (h : Head) (c th : List ℕ) (count scale quota : ℕ) → h ≡ moved_head (head_of words) tick
       → c ≡ turned_counters (counters_used s) (epoch s (head_of words).last) (epoch s tick) counters
       → th ≡ turned_threads (threads_used s) (epoch s (head_of words).last) (epoch s tick) threads
@@ -128,7 +135,7 @@ module _ (m : Limits) (s : Setting) (seeds words counters ticks rows threads : L
       → left 0 (count ∷ scale ∷ quota ∷ []) (head_words h) c ticks rows th ≡ leaves (step (in_force m) s seeds before (index tick bank thread)) out words
   unfolding leaves step index_shown turned moved_head
   left_index tick bank thread out e h c th count scale quota eh ec eth en es eq =
-      rw (unless_taken (call_refusal m s seeds before tick bank thread) before (index_shown (in_force m) s (turned s before tick) bank thread) e, eq, es, en, eh, ec, eth)
+      rw (unless_taken (call_refusal m s seeds before tick bank thread) before (index_shown (in_force m) s (turned s before tick) bank thread) (ap refusal_number e), eq, es, en, eh, ec, eth)
 
 -- ---- a request on the caller's memory, from the tests on
 
@@ -147,6 +154,23 @@ pub record Asks (m : Limits) : Type 0 where
   pub row : ℕ
   pub out : List ℕ
 
+abbrev pub asks : (m : Limits) (setting seeds words counters ticks rows threads : List ℕ) (tick bank thread row : ℕ) (out : List ℕ) → Asks m
+asks m setting seeds words counters ticks rows threads tick bank thread row out =
+    record {
+      setting = setting;
+      seeds = seeds;
+      words = words;
+      counters = counters;
+      ticks = ticks;
+      rows = rows;
+      threads = threads;
+      tick = tick;
+      bank = bank;
+      thread = thread;
+      row = row;
+      out = out;
+    }
+
 module _ {m : Limits} (q : Asks m) where
   abbrev s : Setting
   s = setting_of q.setting
@@ -161,20 +185,24 @@ module _ {m : Limits} (q : Asks m) where
   abbrev left_by : Left
   left_by = leaves (step (in_force m) s q.seeds entry (request q.tick q.bank q.thread q.row)) q.out q.words
 
-  -- the code that the tests gave, at limits that are m
-  module _ (l : Limits) (code : ℕ) (el : l ≡ m)
-      (e : code ≡ refusal_number (call_test l s q.seeds (head_of q.words) (length q.counters) q.ticks (length q.rows) (length q.threads) q.tick q.bank q.thread)) where
-    code_is : code ≡ refusal_number (call_refusal m s q.seeds entry q.tick q.bank q.thread)
-    code_is = call_code m s q.seeds q.words q.counters q.ticks q.rows q.threads q.tick q.bank q.thread code (rw el at e)
+  -- what the tests gave, at limits that are m
+  module _ (l : Limits) (t : Result Bool Refusal) (el : l ≡ m)
+      (e : code_of t ≡ refusal_number (call_test l s q.seeds (head_of q.words) (length q.counters) q.ticks (length q.rows) (length q.threads) q.tick q.bank q.thread)) where
+    code_is : code_of t ≡ refusal_number (call_refusal m s q.seeds entry q.tick q.bank q.thread)
+    code_is = (rw el at e) ∙ ap refusal_number (sym (call_test_lem m s q.seeds entry q.tick q.bank q.thread))
 
-    pub request_refused : code ≢ 0 → left code q.out q.words q.counters q.ticks q.rows q.threads ≡ left_by
+    pub request_refused : (back : Result (Unit {0}) Refusal) (x : Refusal) → t ≡ Err x → IsErrAnd back (λ y. y ≡ x)
+        → left (code_of back) q.out q.words q.counters q.ticks q.rows q.threads ≡ left_by
     unfolding step
-    request_refused h =
-        left_refused (call_refusal m s q.seeds entry q.tick q.bank q.thread) performs code q.out q.words q.counters q.ticks q.rows q.threads code_is h
+    request_refused (Ok u) x z h = absurd h
+    request_refused (Err y) x z h =
+        let number : number_of x ≡ refusal_number (call_refusal m s q.seeds entry q.tick q.bank q.thread) = sym (ap code_of z) ∙ code_is in
+        left_unless (call_refusal m s q.seeds entry q.tick q.bank q.thread) performs (number_of y) q.out q.words q.counters q.ticks q.rows q.threads
+        (ap number_of h ∙ number) (λ k. number_some x (number ∙ k))
 
-    module _ (z : code ≡ 0) where
+    module _ (table : Bool) (z : t ≡ Ok table) where
       free : call_refusal m s q.seeds entry q.tick q.bank q.thread ≡ none
-      free = number_none _ (sym code_is ∙ z)
+      free = number_none _ (sym code_is ∙ ap code_of z)
 
       -- the bank is one of the head's sixteen
       pub in_head : q.bank < 16
@@ -201,4 +229,4 @@ module _ {m : Limits} (q : Asks m) where
 
           pub request_left : left 0 (answer_number a ∷ answer_wait a ∷ answer_left a ∷ []) (head_words after.head) after.counters after.ticks after.rows after.threads ≡ left_by
           request_left =
-              left_request m s q.seeds q.words q.counters q.ticks q.rows q.threads q.tick q.bank q.thread q.row q.out (ap refusal_number free) a after answers
+              left_request m s q.seeds q.words q.counters q.ticks q.rows q.threads q.tick q.bank q.thread q.row q.out free a after answers

@@ -1,5 +1,5 @@
 -- The closed form says the right thing of every setting.
-use mathlib.Core.Path.{◌≡◌, refl, sym, ap, ◌∙◌}
+use mathlib.Core.Path.{◌≡◌, refl, sym, ap, subst, ◌∙◌}
 use mathlib.Core.Logic.{◌≢◌}
 use mathlib.Core.Bool.{Bool, true, false, ◌&&◌, cond}
 use Prim.Native.Nat.{ℕ, ◌*◌, ◌^◌, ◌≤◌, ◌<◌}
@@ -7,13 +7,19 @@ use native.Mathlib.Omega.{arith}
 use native.Mathlib.Nat.{le_refl}
 use lib.Dec.{leb, ltb, eqb}
 use borrow.Author.Tests.{ltb-true, ltb-false, leb-true, leb-false, eqb-true, eqb-false}
+use Rattle.std.specs.Prelude.{Result, Ok, Err}
+use Rattle.std.specs.Result.{result_and}
 use Rattle.rules.specs.declared.Setting.{Setting}
 use Rattle.rules.specs.declared.Limits.{Limits}
 use Rattle.rules.specs.declared.Profile.{Profile}
 use Rattle.rules.specs.Answers.{none, out_of_range, short_window, above_profile, refusal_number}
 use Rattle.rules.specs.Setting.{row_bound, profile_of}
-use Rattle.plan_rules.specs.declared.delays.Plan.TheVariants.{Between, Nothing}
-use Rattle.plan_rules.specs.delays.Delays.{with_delay, delay_refusal, InRange, Ends, Smallest, Reason, every_delay, only_profile, smallest_delay, no_delay, Says}
+use Rattle.refused.specs.declared.Refusal.{Refusal}
+use Rattle.refused.specs.declared.Refusal.TheVariants.{OutOfRange, ShortWindow, AboveLimit, AboveProfile}
+use Rattle.refused.specs.Numbers.{number_of, code_of}
+use Rattle.refused.specs.Passed.{passed}
+use Rattle.refused.proofs.Laws.{code_passed, passed_ok}
+use Rattle.plan_rules.specs.delays.Delays.{from_to, with_delay, delay_refusal, InRange, Ends, Smallest, Reason, every_delay, only_profile, smallest_delay, no_delay, Says}
 use Rattle.plan_rules.specs.delays.Answer as closed
 use Rattle.plan_rules.specs.delays.Answer.{least_delay, greatest_delay, own_greatest, delays_within, delays_above, delays_of}
 use Rattle.plan_rules.specs.delays.Claims.{Right, DelayPlaysNoPart}
@@ -30,8 +36,17 @@ none_at_all : (m : Limits) (s : Setting) → ((td : ℕ) → InRange td → dela
 none_at_all m s f td e = f td (inside m s td e).in_range e
 
 -- where every delay in range gets one refusal
-every : (m : Limits) (s : Setting) (number : ℕ) → Reason m s number → ((td : ℕ) → InRange td → delay_refusal m s td ≢ none) → Says m s (Nothing number)
-every m s number r f = (none_at_all m s f, r)
+every : (m : Limits) (s : Setting) (why : Refusal) → Reason m s (number_of why) → ((td : ℕ) → InRange td → delay_refusal m s td ≢ none) → Says m s (Err why)
+every m s why r f = (none_at_all m s f, r)
+
+-- where one delay has the refusal that is given
+of_one : (m : Limits) (s : Setting) (d : ℕ) → ((td : ℕ) → delay_refusal m s td ≢ none) → Reason m s (refusal_number (delay_refusal m s d))
+    → Says m s (result_and (passed (delay_refusal m s d)) (Err AboveLimit))
+of_one m s d nothing r = go (passed (delay_refusal m s d)) refl
+  where
+    go : (p : Result (Unit {0}) Refusal) → passed (delay_refusal m s d) ≡ p → Says m s (result_and p (Err AboveLimit))
+    go (Ok u) e = absurd (nothing d (passed_ok (delay_refusal m s d) u e))
+    go (Err why) e = (nothing, subst (Reason m s) (sym (code_passed (delay_refusal m s d)) ∙ ap code_of e) r)
 
 -- ---- an interval
 
@@ -80,7 +95,7 @@ smallest s free h =
 
 -- only the profile excludes every delay: the least one gets 16
 sixteen : (m : Limits) (s : Setting) → Other m s → 2 * s.n < s.l → least_delay s ≤ greatest_delay m s → exceeds_own s (least_delay s) ≡ true
-    → ((td : ℕ) → delay_refusal m s td ≢ none) → Says m s (Nothing 16)
+    → ((td : ℕ) → delay_refusal m s td ≢ none) → Says m s (Err AboveProfile)
 sixteen m s o free h x nothing =
     (nothing, only_profile (least_delay s) refl (by_own m s (least_delay s) o free (le_refl (least_delay s)) h ∙ simp x))
 
@@ -91,9 +106,9 @@ within m s o free h = go (leb s.banks own.banks) refl
     own : Profile
     own = profile_of s.profile
 
-    go : (b : Bool) → leb s.banks own.banks ≡ b → Says m s (cond (b && leb (least_delay s) (own_greatest m s)) (Between (least_delay s) (own_greatest m s)) (Nothing 16))
+    go : (b : Bool) → leb s.banks own.banks ≡ b → Says m s (cond (b && leb (least_delay s) (own_greatest m s)) (from_to (least_delay s) (own_greatest m s)) (Err AboveProfile))
     go true e =
-        by_test (Says m s) (leb (least_delay s) (own_greatest m s)) (Between (least_delay s) (own_greatest m s)) (Nothing 16)
+        by_test (Says m s) (leb (least_delay s) (own_greatest m s)) (from_to (least_delay s) (own_greatest m s)) (Err AboveProfile)
         (λ k. ends m s o free (leb-true s.banks own.banks e) (leb-true (least_delay s) (own_greatest m s) k))
         (λ k.
         let far = leb-false (least_delay s) (own_greatest m s) k in
@@ -111,28 +126,28 @@ above m s o free =
     (λ e.
     let far = leb-false (least_delay s) (greatest_delay m s) e in
     let nothing = empty m s far in
-    by_test (Says m s) (ltb (2 ^ 29) (closed.smallest_delay s)) (Nothing 5) _
+    by_test (Says m s) (ltb (2 ^ 29) (closed.smallest_delay s)) (Err AboveLimit) _
     (λ k.
     let large = ltb-true (2 ^ 29) (closed.smallest_delay s) k in
     (nothing, no_bound m s o (λ td h. unbounded s td h.0 free (omega arith))))
-    (λ k. (nothing, smallest_delay (closed.smallest_delay s) (smallest s free (ltb-false (2 ^ 29) (closed.smallest_delay s) k)) (empty_large m s far) refl)))
+    (λ k. of_one m s (closed.smallest_delay s) nothing (smallest_delay (closed.smallest_delay s) (smallest s free (ltb-false (2 ^ 29) (closed.smallest_delay s) k)) (empty_large m s far) refl)))
 
 pub right : Right
 unfolding delays_of
 right m s =
     let first = refusal_number (delay_refusal m s 1) in
-    by_test (Says m s) (eqb first 1) (Nothing 1) _
+    by_test (Says m s) (eqb first 1) (Err OutOfRange) _
     (λ e.
     let all = every_one m s (eqb-true first 1 e) in
-    every m s 1 (every_delay out_of_range refl all) (λ td h z. let k = ap refusal_number (sym (all td h) ∙ z) in omega arith))
+    every m s OutOfRange (every_delay out_of_range refl all) (λ td h z. let k = ap refusal_number (sym (all td h) ∙ z) in omega arith))
     (λ e1.
-    by_test (Says m s) (eqb first 2) (Nothing 2) _
+    by_test (Says m s) (eqb first 2) (Err ShortWindow) _
     (λ e.
     let all = every_two m s (eqb-true first 2 e) in
-    every m s 2 (every_delay short_window refl all) (λ td h z. let k = ap refusal_number (sym (all td h) ∙ z) in omega arith))
+    every m s ShortWindow (every_delay short_window refl all) (λ td h z. let k = ap refusal_number (sym (all td h) ∙ z) in omega arith))
     (λ e2.
     let o = other_number m s (eqb-false first 1 e1) (eqb-false first 2 e2) in
-    by_test (Says m s) (leb s.l (2 * s.n)) (Nothing 5) _
+    by_test (Says m s) (leb s.l (2 * s.n)) (Err AboveLimit) _
     (λ e.
     let low = leb-true s.l (2 * s.n) e in
     ((λ td z. let a = (accepted_delay m s td z).bound in let b = never_bounded s td low in omega arith), no_bound m s o (λ td h. never_bounded s td low)))

@@ -1,18 +1,21 @@
 -- Only one answer is right: what the answers say of a setting settles them.
 use mathlib.Core.Path.{◌≡◌, refl, sym, ap, ◌∙◌}
 use mathlib.Core.Logic.{◌≢◌}
-use mathlib.Core.Bool.{Bool, true, false, ◌||◌}
+use mathlib.Core.Bool.{Bool, true, false, ◌||◌, cond}
 use Prim.Native.Nat.{ℕ, ◌*◌, ◌/◌, ◌≤◌, ◌<◌}
 use native.Mathlib.Omega.{arith}
 use native.Mathlib.Nat.{le_refl, mul-le-mul}
-use lib.Dec.{ltb}
+use lib.Dec.{ltb, eqb}
 use borrow.Author.Tests.{ltb-true, ltb-false, le-ltb, lt-ltb}
+use Rattle.std.specs.Prelude.{Ok, Err}
 use Rattle.rules.specs.declared.Setting.{Setting}
 use Rattle.rules.specs.declared.Limits.{Limits}
 use Rattle.rules.specs.Answers.{Refusal, out_of_range, short_window, above_limit, above_profile, refusal_number}
 use Rattle.rules.specs.Setting.{epoch_length, history_length, row_bound}
-use Rattle.plan_rules.specs.declared.delays.Plan.TheVariants.{Between, Nothing}
-use Rattle.plan_rules.specs.delays.Delays.{with_delay, delay_refusal, InRange, Ends, Smallest, Reason, every_delay, only_profile, smallest_delay, no_delay}
+use Rattle.refused.specs.declared.Refusal as refused
+use Rattle.refused.specs.declared.Refusal.TheVariants.{OutOfRange, ShortWindow, BadDelay, LongHistory, AboveLimit, AboveProfile, ShortBuffer, BadMemory, OutsideSetting, BadTick, NoneInFlight}
+use Rattle.refused.specs.Numbers.{number_of}
+use Rattle.plan_rules.specs.delays.Delays.{from_to, with_delay, delay_refusal, InRange, Ends, Smallest, Reason, every_delay, only_profile, smallest_delay, no_delay}
 use Rattle.plan_rules.specs.delays.Claims.{OnlyOne}
 use Rattle.plan_rules.proofs.delays.Shape.{exceeds_own, Other, other, other_ranges, other_room, other_shape, late, late_of, one}
 use Rattle.plan_rules.proofs.delays.Interval.{history_ok_lem, passes_large, never_above}
@@ -30,7 +33,7 @@ neither_below a b f g = go (ltb a b) (ltb b a) refl refl
         let q = ltb-false b a k in
         omega arith
 
-same_ends : (m : Limits) (s : Setting) (a b c d : ℕ) → Ends m s a b → Ends m s c d → Between a b ≡ Between c d
+same_ends : (m : Limits) (s : Setting) (a b c d : ℕ) → Ends m s a b → Ends m s c d → from_to a b ≡ from_to c d
 same_ends m s a b c d x y =
     let p : a ≡ c = neither_below a c (λ h. y.below a h x.least_accepted) (λ h. x.below c h y.least_accepted) in
     let q : b ≡ d = neither_below b d (λ h. x.above d h y.greatest_accepted) (λ h. y.above b h x.greatest_accepted) in
@@ -114,8 +117,31 @@ same_reason m s i j wide (no_delay l g) (only_profile td k x) = absurd (no_above
 same_reason m s i j wide (no_delay k g) (smallest_delay d x n e) = absurd (no_smallest m s d x g)
 same_reason m s i j wide (no_delay k g) (no_delay e h) = k ∙ sym e
 
+-- no two refusals have one number
+named : ℕ → refused.Refusal
+named n =
+    cond (eqb n 1) OutOfRange (cond (eqb n 2) ShortWindow (cond (eqb n 3) BadDelay (cond (eqb n 4) LongHistory (cond (eqb n 5) AboveLimit
+    (cond (eqb n 16) AboveProfile (cond (eqb n 6) ShortBuffer (cond (eqb n 7) BadMemory (cond (eqb n 8) OutsideSetting (cond (eqb n 9) BadTick NoneInFlight)))))))))
+
+named_back : (r : refused.Refusal) → named (number_of r) ≡ r
+unfolding named
+named_back OutOfRange = refl
+named_back ShortWindow = refl
+named_back BadDelay = refl
+named_back LongHistory = refl
+named_back AboveLimit = refl
+named_back AboveProfile = refl
+named_back ShortBuffer = refl
+named_back BadMemory = refl
+named_back OutsideSetting = refl
+named_back BadTick = refl
+named_back NoneInFlight = refl
+
+number_same : (a b : refused.Refusal) → number_of a ≡ number_of b → a ≡ b
+number_same a b e = sym (named_back a) ∙ ap named e ∙ named_back b
+
 pub only_one : OnlyOne
-only_one m s (Between a b) (Between c d) wide x y = same_ends m s a b c d x y
-only_one m s (Between a b) (Nothing j) wide x y = absurd (y.0 a x.least_accepted)
-only_one m s (Nothing i) (Between c d) wide x y = absurd (x.0 c y.least_accepted)
-only_one m s (Nothing i) (Nothing j) wide x y = ap Nothing (same_reason m s i j wide x.1 y.1)
+only_one m s (Ok a) (Ok b) wide x y = same_ends m s a.least a.greatest b.least b.greatest x y
+only_one m s (Ok a) (Err j) wide x y = absurd (y.0 a.least x.least_accepted)
+only_one m s (Err i) (Ok b) wide x y = absurd (x.0 b.least y.least_accepted)
+only_one m s (Err i) (Err j) wide x y = ap (λ (r : refused.Refusal). Err r) (number_same i j (same_reason m s (number_of i) (number_of j) wide x.1 y.1))

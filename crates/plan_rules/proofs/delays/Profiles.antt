@@ -4,15 +4,17 @@ use mathlib.Core.Logic.{◌≢◌}
 use mathlib.Core.Bool.{Bool, true, false}
 use Prim.Native.Nat.{ℕ, ◌≤◌}
 use native.Mathlib.Omega.{arith}
+use Rattle.std.specs.Prelude.{Ok, Err}
 use Rattle.rules.specs.declared.Setting.{Setting}
 use Rattle.rules.specs.declared.Limits.{Limits}
 use Rattle.rules.specs.Answers.{Refusal, none, out_of_range, short_window, bad_delay, long_history, above_limit, above_profile, short_buffer, bad_memory, outside_setting, bad_tick, none_in_flight, refusal_number, refuse}
 use Rattle.rules.specs.Setting.{row_bound, with_mark, known}
 use Rattle.rules.proofs.Tests.{is_true}
 use Rattle.profiles.proofs.Refusals.{passed_large, own_decides, large_decides}
-use Rattle.plan_rules.specs.declared.delays.Plan.{Plan}
-use Rattle.plan_rules.specs.declared.delays.Plan.TheVariants.{Between, Nothing}
-use Rattle.plan_rules.specs.delays.Delays.{with_delay, some_seeds, delay_refusal, Ends, Reason, every_delay, only_profile, smallest_delay, no_delay, Says}
+use Rattle.refused.specs.declared.Refusal as refused
+use Rattle.refused.specs.declared.Refusal.TheVariants.{AboveProfile}
+use Rattle.refused.specs.Numbers.{number_of}
+use Rattle.plan_rules.specs.delays.Delays.{Plan, from_to, with_delay, some_seeds, delay_refusal, Ends, Reason, every_delay, only_profile, smallest_delay, no_delay, Says}
 use Rattle.plan_rules.specs.delays.Answer.{delays_of}
 use Rattle.plan_rules.specs.delays.Claims.{Sixteen}
 use Rattle.plan_rules.proofs.delays.Shape.{exceeds_own, one}
@@ -55,28 +57,28 @@ module _ (m : Limits) (s : Setting) where
   -- ---- only the profile
 
   -- some delay gets 16: the large profile has an answer with delays
-  has_large : (td : ℕ) → delay_refusal m s td ≡ above_profile → (a : ℕ) × (b : ℕ) × (delays_of m large ≡ Between a b)
+  has_large : (td : ℕ) → delay_refusal m s td ≡ above_profile → (a : ℕ) × (b : ℕ) × (delays_of m large ≡ from_to a b)
   has_large td e = go (delays_of m large) refl
     where
-      go : (p : Plan) → delays_of m large ≡ p → (a : ℕ) × (b : ℕ) × (delays_of m large ≡ Between a b)
-      go (Between a b) k = (a, b, k)
-      go (Nothing r) k = absurd ((subst (Says m large) k (right m large)).0 td (passed td e))
+      go : (p : Plan) → delays_of m large ≡ p → (a : ℕ) × (b : ℕ) × (delays_of m large ≡ from_to a b)
+      go (Ok z) k = (z.least, z.greatest, k)
+      go (Err why) k = absurd ((subst (Says m large) k (right m large)).0 td (passed td e))
 
-  only : delays_of m s ≡ Nothing 16 → ((a : ℕ) × (b : ℕ) × (delays_of m large ≡ Between a b)) × ((td : ℕ) → delay_refusal m s td ≢ none)
+  only : delays_of m s ≡ Err AboveProfile → ((a : ℕ) × (b : ℕ) × (delays_of m large ≡ from_to a b)) × ((td : ℕ) → delay_refusal m s td ≢ none)
   only e = (go said.1, said.0)
     where
-      said : Says m s (Nothing 16)
+      said : Says m s (Err AboveProfile)
       said = subst (Says m s) e (right m s)
 
-      go : Reason m s 16 → (a : ℕ) × (b : ℕ) × (delays_of m large ≡ Between a b)
+      go : Reason m s 16 → (a : ℕ) × (b : ℕ) × (delays_of m large ≡ from_to a b)
       go (every_delay r k f) = has_large 1 (f 1 one ∙ is_above r (sym k))
       go (only_profile td k x) = has_large td x
       go (smallest_delay d x n k) = absurd (n d (is_above (delay_refusal m s d) (sym k)))
       go (no_delay k g) = absurd (omega arith)
 
   module _ (wide : 4 ≤ m.history) (k : known s.profile ≡ true) where
-    excluded : (a b : ℕ) → delays_of m large ≡ Between a b → ((td : ℕ) → delay_refusal m s td ≢ none) → delays_of m s ≡ Nothing 16
-    excluded a b e nothing = only_one m s (delays_of m s) (Nothing 16) wide (right m s) (nothing, only_profile a refl (go (exceeds_own s a) (decides k a x.least_accepted)))
+    excluded : (a b : ℕ) → delays_of m large ≡ from_to a b → ((td : ℕ) → delay_refusal m s td ≢ none) → delays_of m s ≡ Err AboveProfile
+    excluded a b e nothing = only_one m s (delays_of m s) (Err AboveProfile) wide (right m s) (nothing, only_profile a refl (go (exceeds_own s a) (decides k a x.least_accepted)))
       where
         x : Ends m large a b
         x = subst (Says m large) e (right m large)
@@ -87,23 +89,23 @@ module _ (m : Limits) (s : Setting) where
 
     -- ---- where the large profile has none either
 
-    as_large : (number : ℕ) → delays_of m large ≡ Nothing number → delays_of m s ≡ Nothing number
+    as_large : (why : refused.Refusal) → delays_of m large ≡ Err why → delays_of m s ≡ Err why
     unfolding row_bound
-    as_large number e = only_one m s (delays_of m s) (Nothing number) wide (right m s) (refused, go said.1)
+    as_large why e = only_one m s (delays_of m s) (Err why) wide (right m s) (none_accepted, go said.1)
       where
-        said : Says m large (Nothing number)
+        said : Says m large (Err why)
         said = subst (Says m large) e (right m large)
 
         same : (td : ℕ) → delay_refusal m s td ≡ delay_refusal m large td
         same td = alike k td (said.0 td)
 
-        refused : (td : ℕ) → delay_refusal m s td ≢ none
-        refused td z = said.0 td (sym (same td) ∙ z)
+        none_accepted : (td : ℕ) → delay_refusal m s td ≢ none
+        none_accepted td z = said.0 td (sym (same td) ∙ z)
 
         never : (td : ℕ) → delay_refusal m s td ≢ above_profile
         never td z = said.0 td (passed td z)
 
-        go : Reason m large number → Reason m s number
+        go : Reason m large (number_of why) → Reason m s (number_of why)
         go (every_delay r n f) = every_delay r n (λ td h. same td ∙ f td h)
         go (only_profile td n x) = absurd (never td (same td ∙ x))
         go (smallest_delay d x f n) = smallest_delay d (record { in_range = x.in_range; bounded = x.bounded; first = x.first }) never (n ∙ ap refusal_number (sym (same d)))

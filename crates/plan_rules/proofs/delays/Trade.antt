@@ -1,5 +1,5 @@
 -- The trade between N and tD: a smaller N keeps every accepted delay, so the least delay never falls as N grows. A larger L and wider limits keep them too.
-use mathlib.Core.Path.{◌≡◌, refl, sym, subst, ◌∙◌}
+use mathlib.Core.Path.{◌≡◌, refl, sym, ap, subst, ◌∙◌}
 use mathlib.Core.Bool.{Bool, true, false, ◌&&◌, cond}
 use Prim.Native.Nat.{ℕ, ◌-◌, ◌*◌, ◌^◌, ◌≤◌, ◌<◌}
 use native.Mathlib.Omega.{arith}
@@ -8,12 +8,16 @@ use lib.Dec.{leb, ltb, eqb}
 use borrow.Author.Tests.{ltb-true, ltb-false}
 use Rattle.rules.specs.declared.Setting.{Setting}
 use Rattle.rules.specs.declared.Limits.{Limits}
+use Rattle.std.specs.Prelude.{Result, Ok, Err}
+use Rattle.std.specs.Result.{result_and}
 use Rattle.rules.specs.Answers.{refusal_number}
 use Rattle.rules.specs.Setting.{history_length, row_bound, profile_of}
 use Rattle.rules.specs.Tested.{Accepted}
-use Rattle.plan_rules.specs.declared.delays.Plan.{Plan}
-use Rattle.plan_rules.specs.declared.delays.Plan.TheVariants.{Between, Nothing}
-use Rattle.plan_rules.specs.delays.Delays.{with_delay, with_threshold, with_limit, some_seeds, delay_refusal, AcceptedDelay, Ends, Says}
+use Rattle.refused.specs.declared.Refusal.{Refusal}
+use Rattle.refused.specs.declared.Refusal.TheVariants.{OutOfRange, ShortWindow, AboveLimit, AboveProfile}
+use Rattle.refused.specs.Passed.{passed}
+use Rattle.plan_rules.specs.declared.delays.Delays.{Delays}
+use Rattle.plan_rules.specs.delays.Delays.{Plan, from_to, with_delay, with_threshold, with_limit, some_seeds, delay_refusal, AcceptedDelay, Ends, Says}
 use Rattle.plan_rules.specs.delays.Answer.{smallest_delay, least_delay, greatest_delay, own_greatest, delays_within, delays_above, delays_of}
 use Rattle.plan_rules.specs.delays.Claims.{LongerDelay, Nested, Grows, UpToLast, LargerLimit, WiderLimits, Flat, Decided}
 use Rattle.plan_rules.proofs.delays.Numbers.{quotient_falls, ceil_grows, bound_grows, room_kept, smallest_below, smallest_above}
@@ -70,22 +74,25 @@ says : (m : Limits) (s : Setting) (p : Plan) → delays_of m s ≡ p → Says m 
 says m s p e = subst (Says m s) e (right m s)
 
 -- the two ends of an answer are the closed form's
-pub ends_are : (m : Limits) (s : Setting) (a b : ℕ) → delays_of m s ≡ Between a b → (a ≡ least_delay s) × (b ≡ own_greatest m s)
+pub ends_are : (m : Limits) (s : Setting) (a b : ℕ) → delays_of m s ≡ from_to a b → (a ≡ least_delay s) × (b ≡ own_greatest m s)
 unfolding delays_of delays_above delays_within
 ends_are m s a b e =
     go (eqb (refusal_number (delay_refusal m s 1)) 1) (eqb (refusal_number (delay_refusal m s 1)) 2) (leb s.l (2 * s.n)) (leb (least_delay s) (greatest_delay m s))
-    (leb s.banks (profile_of s.profile).banks && leb (least_delay s) (own_greatest m s)) (ltb (2 ^ 29) (smallest_delay s)) _ e
+    (leb s.banks (profile_of s.profile).banks && leb (least_delay s) (own_greatest m s)) (ltb (2 ^ 29) (smallest_delay s)) (passed (delay_refusal m s (smallest_delay s))) e
   where
-    go : (c1 c2 c3 c4 c5 c6 : Bool) (r : ℕ)
-        → cond c1 (Nothing 1) (cond c2 (Nothing 2) (cond c3 (Nothing 5) (cond c4 (cond c5 (Between (least_delay s) (own_greatest m s)) (Nothing 16)) (cond c6 (Nothing 5) (Nothing r))))) ≡ Between a b
+    go : (c1 c2 c3 c4 c5 c6 : Bool) (p : Result (Unit {0}) Refusal)
+        → cond c1 (Err OutOfRange) (cond c2 (Err ShortWindow) (cond c3 (Err AboveLimit) (cond c4 (cond c5 (from_to (least_delay s) (own_greatest m s)) (Err AboveProfile)) (cond c6 (Err AboveLimit) (result_and p (Err AboveLimit)))))) ≡ from_to a b
         → (a ≡ least_delay s) × (b ≡ own_greatest m s)
-    go true c2 c3 c4 c5 c6 r e = let z : ◌≡◌ {A = ℕ} 0 1 = cc in absurd (omega arith)
-    go false true c3 c4 c5 c6 r e = let z : ◌≡◌ {A = ℕ} 0 1 = cc in absurd (omega arith)
-    go false false true c4 c5 c6 r e = let z : ◌≡◌ {A = ℕ} 0 1 = cc in absurd (omega arith)
-    go false false false true true c6 r e = ((cc), (cc))
-    go false false false true false c6 r e = let z : ◌≡◌ {A = ℕ} 0 1 = cc in absurd (omega arith)
-    go false false false false c5 true r e = let z : ◌≡◌ {A = ℕ} 0 1 = cc in absurd (omega arith)
-    go false false false false c5 false r e = let z : ◌≡◌ {A = ℕ} 0 1 = cc in absurd (omega arith)
+    go true c2 c3 c4 c5 c6 p e = absurd cc
+    go false true c3 c4 c5 c6 p e = absurd cc
+    go false false true c4 c5 c6 p e = absurd cc
+    go false false false true true c6 p e =
+        let same : ◌≡◌ {A = Delays} (record { least = least_delay s; greatest = own_greatest m s }) (record { least = a; greatest = b }) = cc in
+        (sym (ap (λ (d : Delays). d.least) same), sym (ap (λ (d : Delays). d.greatest) same))
+    go false false false true false c6 p e = absurd cc
+    go false false false false c5 true p e = absurd cc
+    go false false false false c5 false (Ok u) e = absurd cc
+    go false false false false c5 false (Err why) e = absurd cc
 
 greatest_same : (m : Limits) (s : Setting) (n more : ℕ) → own_greatest m (with_threshold s n) ≡ own_greatest m (with_threshold s more)
 unfolding own_greatest greatest_delay
@@ -109,17 +116,17 @@ not_above m s a b td x e = go (ltb b td) refl
 
 pub grows : Grows
 grows m s n more a b c d h p q =
-    let x : Ends m (with_threshold s n) a b = says m (with_threshold s n) (Between a b) p in
-    let y : Ends m (with_threshold s more) c d = says m (with_threshold s more) (Between c d) q in
+    let x : Ends m (with_threshold s n) a b = says m (with_threshold s n) (from_to a b) p in
+    let y : Ends m (with_threshold s more) c d = says m (with_threshold s more) (from_to c d) q in
     let low = (accepted_delay m (with_threshold s n) a x.least_accepted).ranges.n_low in (
       not_below m (with_threshold s n) a b c x (nested m s n more c low h y.least_accepted),
       (ends_are m (with_threshold s n) a b p).1 ∙ greatest_same m s n more ∙ sym (ends_are m (with_threshold s more) c d q).1,
     )
 
 pub up_to_last : UpToLast
-up_to_last m s n more r low h p c d q =
-    let y : Ends m (with_threshold s more) c d = says m (with_threshold s more) (Between c d) q in
-    (says m (with_threshold s n) (Nothing r) p).0 c (nested m s n more c low h y.least_accepted)
+up_to_last m s n more why low h p c d q =
+    let y : Ends m (with_threshold s more) c d = says m (with_threshold s more) (from_to c d) q in
+    (says m (with_threshold s n) (Err why) p).0 c (nested m s n more c low h y.least_accepted)
 
 -- ---- at wider limits
 
@@ -136,15 +143,17 @@ pub wider_limits : WiderLimits
 wider_limits m more s a b n h e = go (delays_of more s) refl
   where
     x : Ends m s a b
-    x = says m s (Between a b) e
+    x = says m s (from_to a b) e
 
-    go : (p : Plan) → delays_of more s ≡ p → (c : ℕ) × (b ≤ c) × (delays_of more s ≡ Between a c)
-    go (Nothing r) q = absurd ((says more s (Nothing r) q).0 a (wider m more s a n h x.least_accepted))
-    go (Between c d) q =
+    go : (p : Plan) → delays_of more s ≡ p → (c : ℕ) × (b ≤ c) × (delays_of more s ≡ from_to a c)
+    go (Err why) q = absurd ((says more s (Err why) q).0 a (wider m more s a n h x.least_accepted))
+    go (Ok z) q =
+        let c = z.least in
+        let d = z.greatest in
         let least : c ≡ a = (ends_are more s c d q).0 ∙ sym (ends_are m s a b e).0 in (
           d,
-          not_above more s c d b (says more s (Between c d) q) (wider m more s b n h x.greatest_accepted),
-          subst (λ (z : ℕ). delays_of more s ≡ Between z d) least q,
+          not_above more s c d b (says more s (Ok z) q) (wider m more s b n h x.greatest_accepted),
+          subst (λ (y : ℕ). delays_of more s ≡ from_to y d) least q,
         )
 
 -- ---- where it grows
@@ -157,7 +166,7 @@ least_flat s free room h =
 
 pub flat : Flat
 flat m s a b h e =
-    let x : Ends m s a b = says m s (Between a b) e in
+    let x : Ends m s a b = says m s (from_to a b) e in
     let i = inside m s a x.least_accepted in
     let r = accepted_delay m s a x.least_accepted in
     (ends_are m s a b e).0 ∙ least_flat s i.free r.room h
@@ -170,5 +179,5 @@ least_decided s free h =
 
 pub decided : Decided
 decided m s a b h e =
-    let x : Ends m s a b = says m s (Between a b) e in
+    let x : Ends m s a b = says m s (from_to a b) e in
     (ends_are m s a b e).0 ∙ least_decided s (inside m s a x.least_accepted).free h

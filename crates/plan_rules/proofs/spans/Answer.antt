@@ -7,8 +7,10 @@ use native.Mathlib.Omega.{arith}
 use native.Mathlib.Nat.{le_trans}
 use borrow.Author.Tests.{ne_eqb}
 use lib.Dec.{eqb}
+use Rattle.std.specs.Prelude.{Result, Ok, Err}
+use Rattle.std.specs.Result.{result_and}
 use Rattle.rules.specs.declared.Setting.{Setting}
-use Rattle.rules.specs.Answers.{none, refusal_number}
+use Rattle.rules.specs.Answers.{none}
 use Rattle.rules.specs.Setting.{setting_of, setting_refusal}
 use Rattle.rules.specs.Policy.{limits02}
 use Rattle.rules.specs.Calls.{times_activated}
@@ -19,8 +21,9 @@ use Rattle.interface.specs.Claims.{openings_from}
 use Rattle.interface.proofs.Theorems.{theorems as interface}
 use Rattle.plan_rules.specs.delays.Delays.{some_seeds, delay_refusal}
 use Rattle.plan_rules.proofs.delays.Theorems.{theorems as delays}
-use Rattle.plan_rules.specs.declared.spans.Span.{Span}
-use Rattle.plan_rules.specs.declared.spans.Span.TheVariants.{Most, Refused}
+use Rattle.refused.specs.declared.Refusal.{Refusal}
+use Rattle.refused.specs.declared.Refusal.TheVariants.{OutOfRange}
+use Rattle.refused.specs.Passed.{passed}
 use Rattle.plan_rules.specs.spans.Spans.{span_refusal, span_of, Room}
 use Rattle.plan_rules.specs.spans.Claims.{NeverMore, Answered, SeedsPlayNoPart, NeverFalls, OneATick, InWindows, InOneWindow}
 use Rattle.plan_rules.proofs.spans.Most.{more_ticks, more_free}
@@ -35,7 +38,7 @@ room_of s seeds e =
 
 -- ---- the refusal
 
-pub no_ticks : (s : Setting) → span_of s 0 ≡ Refused 1
+pub no_ticks : (s : Setting) → span_of s 0 ≡ Err OutOfRange
 unfolding span_of span_refusal
 no_ticks s = refl
 
@@ -49,7 +52,7 @@ seeds_play_no_part s seeds x ok h = refusal_from s x h ∙ sym (delays.seeds_pla
 
 -- ---- the answer
 
-accepted_answer : (s : Setting) (seeds : List ℕ) (x : ℕ) → 1 ≤ x → setting_refusal limits02 s seeds ≡ none → span_of s x ≡ Most (span_bound s x)
+accepted_answer : (s : Setting) (seeds : List ℕ) (x : ℕ) → 1 ≤ x → setting_refusal limits02 s seeds ≡ none → span_of s x ≡ Ok (span_bound s x)
 unfolding span_of
 accepted_answer s seeds x h e =
     let ok = (accepted limits02 s seeds e).seeds_ok in
@@ -59,28 +62,18 @@ accepted_answer s seeds x h e =
 pub answered : Answered
 answered s seeds x h = (λ e. accepted_answer s seeds x h (widths.old_accepted s seeds e), accepted_answer s seeds x h)
 
--- the bound of an answer
-abbrev times_of : Span → ℕ
-times_of (Most times) = times
-times_of (Refused number) = 0
-
-abbrev is_most : Span → ℕ
-is_most (Most times) = 1
-is_most (Refused number) = 0
-
 -- where a bound is given, x is 1 or more and the bound is the formula
-most_is : (s : Setting) (x most : ℕ) → span_of s x ≡ Most most → (1 ≤ x) × (span_bound s x ≡ most)
+most_is : (s : Setting) (x most : ℕ) → span_of s x ≡ Ok most → (1 ≤ x) × (span_bound s x ≡ most)
 unfolding span_of
-most_is s x most e = go (eqb (refusal_number (span_refusal s x)) 0) refl e
+most_is s x most e = go (passed (span_refusal s x)) e
   where
-    from_one : (x : ℕ) → span_of s x ≡ Most most → 1 ≤ x
-    from_one zero e = absurd (omega (arith, ap is_most (sym e ∙ no_ticks s)))
+    from_one : (x : ℕ) → span_of s x ≡ Ok most → 1 ≤ x
+    from_one zero e = let z = sym (no_ticks s) ∙ e in absurd cc
     from_one (suc x) e = omega arith
 
-    go : (b : Bool) → eqb (refusal_number (span_refusal s x)) 0 ≡ b → cond b (Most (span_bound s x)) (Refused (refusal_number (span_refusal s x))) ≡ Most most
-        → (1 ≤ x) × (span_bound s x ≡ most)
-    go true z k = (from_one x e, ap times_of k)
-    go false z k = absurd (omega (arith, ap is_most k))
+    go : (p : Result (Unit {0}) Refusal) → result_and p (Ok (span_bound s x)) ≡ Ok most → (1 ≤ x) × (span_bound s x ≡ most)
+    go (Ok u) k = (from_one x e, (cc))
+    go (Err why) k = absurd cc
 
 pub never_more : NeverMore
 never_more setting x most e w seeds m up cs bank row start =

@@ -1,13 +1,13 @@
 -- What is proved about the delays of a setting, for the limits m of every width and the profile that the setting names: the statements, as types.
 -- Their proofs are in proofs/.
-use Rattle.std.specs.Prelude.{◌≡◌, ◌≢◌, List, ℕ, ◌-◌, ◌*◌, ◌^◌, ◌≤◌, ◌<◌, T}
+use Rattle.std.specs.Prelude.{◌≡◌, ◌≢◌, List, ℕ, ◌-◌, ◌*◌, ◌^◌, ◌≤◌, ◌<◌, T, Err}
 use Rattle.rules.specs.declared.Setting.{Setting}
 use Rattle.rules.specs.declared.Limits.{Limits}
 use Rattle.rules.specs.Answers.{none}
 use Rattle.rules.specs.Setting.{with_mark, known, history_length, row_bound, seeds_in_range, setting_refusal}
-use Rattle.plan_rules.specs.declared.delays.Plan.{Plan}
-use Rattle.plan_rules.specs.declared.delays.Plan.TheVariants.{Between, Nothing}
-use Rattle.plan_rules.specs.delays.Delays.{with_delay, with_threshold, with_limit, delay_refusal, AcceptedDelay, Says}
+use Rattle.refused.specs.declared.Refusal.{Refusal}
+use Rattle.refused.specs.declared.Refusal.TheVariants.{AboveProfile}
+use Rattle.plan_rules.specs.delays.Delays.{Plan, from_to, with_delay, with_threshold, with_limit, delay_refusal, AcceptedDelay, Says}
 use Rattle.plan_rules.specs.delays.Answer.{smallest_delay, delays_of}
 
 -- The answer is right for all limits and every setting: both ends are accepted, every delay between them is, none outside them is;
@@ -39,9 +39,9 @@ LongerDelay =
 -- The answer 16 is given where only the profile excludes every delay: the large profile accepts one, and the setting's own accepts none. Where the
 -- large profile accepts none either, the answer is the large profile's.
 pub record ByProfile (m : Limits) (s : Setting) : Type 0 where
-  pub only : delays_of m s ≡ Nothing 16 → ((a : ℕ) × (b : ℕ) × (delays_of m (with_mark 0 s) ≡ Between a b)) × ((td : ℕ) → delay_refusal m s td ≢ none)
-  pub excluded : (a b : ℕ) → delays_of m (with_mark 0 s) ≡ Between a b → ((td : ℕ) → delay_refusal m s td ≢ none) → delays_of m s ≡ Nothing 16
-  pub as_large : (number : ℕ) → delays_of m (with_mark 0 s) ≡ Nothing number → delays_of m s ≡ Nothing number
+  pub only : delays_of m s ≡ Err AboveProfile → ((a : ℕ) × (b : ℕ) × (delays_of m (with_mark 0 s) ≡ from_to a b)) × ((td : ℕ) → delay_refusal m s td ≢ none)
+  pub excluded : (a b : ℕ) → delays_of m (with_mark 0 s) ≡ from_to a b → ((td : ℕ) → delay_refusal m s td ≢ none) → delays_of m s ≡ Err AboveProfile
+  pub as_large : (why : Refusal) → delays_of m (with_mark 0 s) ≡ Err why → delays_of m s ≡ Err why
 
 -- of every setting with the mark of a profile, where the limits allow a history at all
 abbrev pub Sixteen : Type 0
@@ -58,14 +58,14 @@ Nested =
 abbrev pub Grows : Type 0
 Grows =
     (m : Limits) (s : Setting) (n more a b c d : ℕ) → n ≤ more
-    → delays_of m (with_threshold s n) ≡ Between a b
-    → delays_of m (with_threshold s more) ≡ Between c d
+    → delays_of m (with_threshold s n) ≡ from_to a b
+    → delays_of m (with_threshold s more) ≡ from_to c d
     → (a ≤ c) × (b ≡ d)
 
 abbrev pub UpToLast : Type 0
 UpToLast =
-    (m : Limits) (s : Setting) (n more r : ℕ) → 1 ≤ n → n ≤ more
-    → delays_of m (with_threshold s n) ≡ Nothing r → (c d : ℕ) → delays_of m (with_threshold s more) ≡ Between c d → ⊥
+    (m : Limits) (s : Setting) (n more : ℕ) (why : Refusal) → 1 ≤ n → n ≤ more
+    → delays_of m (with_threshold s n) ≡ Err why → (c d : ℕ) → delays_of m (with_threshold s more) ≡ from_to c d → ⊥
 
 -- A delay that is accepted with a limit L is accepted with every larger one of the table's range: what has no delay with L has none with a smaller L.
 abbrev pub LargerLimit : Type 0
@@ -76,15 +76,15 @@ LargerLimit =
 abbrev pub WiderLimits : Type 0
 WiderLimits =
     (m more : Limits) (s : Setting) (a b : ℕ) → m.threshold ≤ more.threshold → m.history ≤ more.history
-    → delays_of m s ≡ Between a b → (c : ℕ) × (b ≤ c) × (delays_of more s ≡ Between a c)
+    → delays_of m s ≡ from_to a b → (c : ℕ) × (b ≤ c) × (delays_of more s ≡ from_to a c)
 
 -- Where L + 1 activations, each tRC after the one before, do not fit in W ticks, the least delay is tRC for every threshold: it does not grow.
 abbrev pub Flat : Type 0
-Flat = (m : Limits) (s : Setting) (a b : ℕ) → s.w - 1 < s.trc * s.l → delays_of m s ≡ Between a b → a ≡ s.trc
+Flat = (m : Limits) (s : Setting) (a b : ℕ) → s.w - 1 < s.trc * s.l → delays_of m s ≡ from_to a b → a ≡ s.trc
 
 -- Where they fit, refusal 5 decides the least delay: it is the smallest delay with B ≤ L.
 abbrev pub Decided : Type 0
-Decided = (m : Limits) (s : Setting) (a b : ℕ) → s.trc * s.l ≤ s.w - 1 → delays_of m s ≡ Between a b → a ≡ smallest_delay s
+Decided = (m : Limits) (s : Setting) (a b : ℕ) → s.trc * s.l ≤ s.w - 1 → delays_of m s ≡ from_to a b → a ≡ smallest_delay s
 
 pub record Theorems : Type 0 where
   pub right : Right

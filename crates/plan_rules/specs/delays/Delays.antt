@@ -1,12 +1,13 @@
 -- The delays of a setting: which of them are accepted, and what an answer about them says, for the limits m of a width and the profile that the
 -- setting names. The setting's own delay and the seeds play no part.
-use Rattle.std.specs.Prelude.{◌≡◌, ◌≢◌, List, ℕ, ◌^◌, ◌≤◌, ◌<◌, replicate}
+use Rattle.std.specs.Prelude.{◌≡◌, ◌≢◌, List, ℕ, ◌^◌, ◌≤◌, ◌<◌, replicate, Result, Ok, Err}
 use Rattle.rules.specs.declared.Setting.{Setting}
 use Rattle.rules.specs.declared.Limits.{Limits}
 use Rattle.rules.specs.Answers.{Refusal, none, out_of_range, short_window, above_profile, refusal_number}
 use Rattle.rules.specs.Setting.{row_bound, setting_refusal}
-use Rattle.plan_rules.specs.declared.delays.Plan.{Plan}
-use Rattle.plan_rules.specs.declared.delays.Plan.TheVariants.{Between, Nothing}
+use Rattle.refused.specs.declared.Refusal as refused
+use Rattle.refused.specs.Numbers.{number_of}
+use Rattle.plan_rules.specs.declared.delays.Delays.{Delays}
 
 -- the setting with another delay tD
 abbrev pub with_delay : Setting → ℕ → Setting
@@ -69,7 +70,14 @@ pub data Reason (m : Limits) (s : Setting) (number : ℕ) : Type 0 where
   -- 5 where every delay in range has B > L, and none of them is refused with 1 or 2
   no_delay : number ≡ 5 → ((td : ℕ) → InRange td → (s.l < row_bound (with_delay s td)) × (delay_refusal m s td ≢ out_of_range) × (delay_refusal m s td ≢ short_window)) → Reason m s number
 
+-- An answer: the accepted delays, or the refusal where there are none.
+abbrev pub Plan : Type 0
+Plan = Result Delays refused.Refusal
+
+abbrev pub from_to : ℕ → ℕ → Plan
+from_to a b = Ok (record { least = a; greatest = b })
+
 -- what an answer says of the setting
 abbrev pub Says : Limits → Setting → Plan → Type 0
-Says m s (Between least greatest) = Ends m s least greatest
-Says m s (Nothing number) = ((td : ℕ) → delay_refusal m s td ≢ none) × Reason m s number
+Says m s (Ok delays) = Ends m s delays.least delays.greatest
+Says m s (Err why) = ((td : ℕ) → delay_refusal m s td ≢ none) × Reason m s (number_of why)

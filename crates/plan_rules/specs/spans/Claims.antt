@@ -1,6 +1,6 @@
 -- What is proved of spans of every length (document 02, m): the statements, as types. Their proofs are in proofs/. The bound itself is `span_bound`, and
 -- that no list of calls exceeds it is `Spans`, both in the crate `rules`.
-use Rattle.std.specs.Prelude.{◌≡◌, List, ℕ, ◌+◌, ◌-◌, ◌*◌, ◌/◌, ◌≤◌, T}
+use Rattle.std.specs.Prelude.{◌≡◌, List, ℕ, ◌+◌, ◌-◌, ◌*◌, ◌/◌, ◌≤◌, T, Ok}
 use Rattle.rules.specs.declared.Setting.{Setting}
 use Rattle.rules.specs.Answers.{none}
 use Rattle.rules.specs.Setting.{setting_of, row_bound, seeds_in_range, setting_refusal}
@@ -9,7 +9,6 @@ use Rattle.rules.specs.Calls.{times_activated}
 use Rattle.rules.specs.Claims.{span_bound, Spans}
 use Rattle.widths.specs.Claims.{SpansOver}
 use Rattle.interface.specs.Claims.{Lent, Width, rules_of, left_by_setup, lent_after, ListFrom, openings_from, SpansOverForC}
-use Rattle.plan_rules.specs.declared.spans.Span.TheVariants.{Most}
 use Rattle.plan_rules.specs.spans.Spans.{span_refusal, span_of}
 
 -- ---- the answer
@@ -18,7 +17,7 @@ use Rattle.plan_rules.specs.spans.Spans.{span_refusal, span_of}
 -- returned 0, at either width, refused calls and a change-over included, with any seeds and any memory.
 abbrev pub NeverMore : Type 0
 NeverMore =
-    (setting : List ℕ) (x most : ℕ) → span_of (setting_of setting) x ≡ Most most
+    (setting : List ℕ) (x most : ℕ) → span_of (setting_of setting) x ≡ Ok most
     → (w : Width) (seeds : List ℕ) (m : Lent) → (left_by_setup (rules_of w) setting seeds m).code ≡ 0
     → (cs : ListFrom setting seeds w (lent_after (left_by_setup (rules_of w) setting seeds m))) (bank row start : ℕ)
     → times_activated bank row start x (openings_from setting seeds cs) ≤ most
@@ -27,7 +26,7 @@ NeverMore =
 abbrev pub Answered : Type 0
 Answered =
     (s : Setting) (seeds : List ℕ) (x : ℕ) → 1 ≤ x
-    → (setting_refusal limits01 s seeds ≡ none → span_of s x ≡ Most (span_bound s x)) × (setting_refusal limits02 s seeds ≡ none → span_of s x ≡ Most (span_bound s x))
+    → (setting_refusal limits01 s seeds ≡ none → span_of s x ≡ Ok (span_bound s x)) × (setting_refusal limits02 s seeds ≡ none → span_of s x ≡ Ok (span_bound s x))
 
 -- The refusal does not depend on seeds, as long as they are in range.
 abbrev pub SeedsPlayNoPart : Type 0

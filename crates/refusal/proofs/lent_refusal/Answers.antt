@@ -1,92 +1,50 @@
 -- `lent_refusal` gives the refusals of set-up, then 7.
-use Rattle.std.proofs.Common.{◌≡◌, true, false, not, length, sym, refl, ap, ◌∙◌}
-use Rattle.head.specs.declared.Head.{Head}
-use Rattle.rules.specs.declared.Setting.{Setting}
-use Rattle.rules.specs.Answers.{Refusal, none, bad_memory, refusal_number, refuse}
+use Rattle.std.proofs.Common.{length, refl, sym, ◌∙◌}
 use Rattle.rules.specs.Setting.{setting_of}
-use Rattle.rules.specs.State.{head_of}
-use Rattle.refusal.specs.Memory.{memory_test}
 use Rattle.refusal.specs.Tests.{setup_test, lent_test}
-use Rattle.refusal.proofs.Refusals.{lent_setup, lent_first, lent_memory, Lengths, tested_setup}
+use Rattle.refused.proofs.Laws.{passed_ok, passed_up, passed_second}
+use Rattle.refusal.proofs.Refusals.{tested_setup}
 use Rattle.refusal.proofs.lent_refusal.Goals as goal
+use Rattle.refusal.proofs.lent_refusal.Goals.{else-keeps-via-then-keeps+else-not-memory_ok, else-keeps-via-else-keeps}
 
-pub returns-then-code-ne0 : goal.returns-then-code-ne0
-returns-then-code-ne0 c =
-    let s : Setting = setting_of c.args.setting.now in
-    let h : Head = head_of c.args.head.now in
-    let front : Refusal = let a = c.args in setup_test a.m s a.seeds.now a.counters (length a.ticks.now) a.rows a.threads in
-    let code_is : c.setup_refusal-code.result ≡ refusal_number front = let e = c.load-s.ensures in
-    rw e at c.setup_refusal-code.ensures in
-    let a = c.args in
-    code_is
-    ∙ ap refusal_number (sym (lent_first a.m s a.seeds.now h a.counters a.ticks.now a.rows a.threads a.keeps (λ z. c.if-code-ne0.true (code_is ∙ z))))
-
-pub returns-then-not-keeps : goal.returns-then-not-keeps
-returns-then-not-keeps c =
-    let s : Setting = setting_of c.args.setting.now in
-    let h : Head = head_of c.args.head.now in
-    let front : Refusal = let a = c.args in setup_test a.m s a.seeds.now a.counters (length a.ticks.now) a.rows a.threads in
-    let code_is : c.setup_refusal-code.result ≡ refusal_number front = let e = c.load-s.ensures in
-    rw e at c.setup_refusal-code.ensures in
-    let free : refusal_number front ≡ 0 = sym code_is ∙ c.if-code-ne0.false in
-    let a = c.args in
-    sym
-    (ap (λ k. refusal_number (lent_test a.m s a.seeds.now h a.counters a.ticks.now a.rows a.threads k)) c.if-not-keeps.true
-    ∙ ap refusal_number (lent_setup a.m s a.seeds.now h a.counters a.ticks.now a.rows a.threads) ∙ free)
+pub returns-in_err-setup_refusal : goal.returns-in_err-setup_refusal
+unfolding lent_test
+returns-in_err-setup_refusal c =
+    let e = c.load-s.ensures in
+    passed_up (setup_test c.args.m (setting_of c.args.lent.setting.now) c.args.lent.seeds.now c.args.lent.counters (length c.args.lent.ticks.now) c.args.lent.rows c.args.threads) _ _ _ _
+    (rw e at c.setup_refusal.ensures) c.in_err-setup_refusal.was c.from_residual.ensures.1
 
 pub history_length-requires : goal.history_length-requires
 history_length-requires c =
-    let s : Setting = setting_of c.args.setting.now in
-    let front : Refusal = let a = c.args in setup_test a.m s a.seeds.now a.counters (length a.ticks.now) a.rows a.threads in
-    let code_is : c.setup_refusal-code.result ≡ refusal_number front = let e = c.load-s.ensures in
-    rw e at c.setup_refusal-code.ensures in
-    let free : refusal_number front ≡ 0 = sym code_is ∙ c.if-code-ne0.false in
-    let ok : let a = c.args in Lengths a.m s a.seeds.now (length a.ticks.now) a.threads = let a = c.args in
-    tested_setup a.m s a.seeds.now a.counters (length a.ticks.now) a.rows a.threads free in
-    let k = ok.setting.ranges in
     let e = c.load-s.ensures in
+    let ok = tested_setup c.args.m (setting_of c.args.lent.setting.now) c.args.lent.seeds.now c.args.lent.counters (length c.args.lent.ticks.now) c.args.lent.rows c.args.threads
+    (passed_ok _ _ (sym (rw e at c.setup_refusal.ensures) ∙ c.in_ok-setup_refusal.was)) in
+    let k = ok.setting.ranges in
     rw e (k.tfaw_low, k.tfaw_high, k.td_high)
 
 pub memory_ok-requires : goal.memory_ok-requires
 memory_ok-requires c =
-    let s : Setting = setting_of c.args.setting.now in
-    let front : Refusal = let a = c.args in setup_test a.m s a.seeds.now a.counters (length a.ticks.now) a.rows a.threads in
-    let code_is : c.setup_refusal-code.result ≡ refusal_number front = let e = c.load-s.ensures in
-    rw e at c.setup_refusal-code.ensures in
-    let free : refusal_number front ≡ 0 = sym code_is ∙ c.if-code-ne0.false in
-    let ok : let a = c.args in Lengths a.m s a.seeds.now (length a.ticks.now) a.threads = let a = c.args in
-    tested_setup a.m s a.seeds.now a.counters (length a.ticks.now) a.rows a.threads free in
-    let k = ok in
     let e = c.load-s.ensures in
+    let ok = tested_setup c.args.m (setting_of c.args.lent.setting.now) c.args.lent.seeds.now c.args.lent.counters (length c.args.lent.ticks.now) c.args.lent.rows c.args.threads
+    (passed_ok _ _ (sym (rw e at c.setup_refusal.ensures) ∙ c.in_ok-setup_refusal.was)) in
     let z = rw e at c.history_length.ensures in
-    rw (e, z) (k.setting.ranges.banks_high, refl, k.ticks_long)
+    rw (e, z) (ok.setting.ranges.banks_high, refl, ok.ticks_long)
 
-pub returns-then-memory_ok : goal.returns-then-memory_ok
-returns-then-memory_ok c =
-    let a = c.args in
-    let s : Setting = setting_of a.setting.now in
-    let h : Head = head_of a.head.now in
-    let front : Refusal = setup_test a.m s a.seeds.now a.counters (length a.ticks.now) a.rows a.threads in
-    let l = c.load-s.ensures in
-    let code_is : c.setup_refusal-code.result ≡ refusal_number front = rw l at c.setup_refusal-code.ensures in
-    let free : refusal_number front ≡ 0 = sym code_is ∙ c.if-code-ne0.false in
-    let test : memory_test s h a.ticks.now ≡ true = rw l at (sym c.memory_ok.ensures) ∙ c.if-memory_ok.true in
-    sym
-    (ap (λ k. refusal_number (lent_test a.m s a.seeds.now h a.counters a.ticks.now a.rows a.threads k)) c.if-not-keeps.false
-    ∙ ap refusal_number (lent_memory a.m s a.seeds.now h a.counters a.ticks.now a.rows a.threads free)
-    ∙ ap (λ x. refusal_number (refuse (not x) bad_memory none)) test)
+pub returns-then-not-memory_ok : goal.returns-then-not-memory_ok
+unfolding lent_test
+returns-then-not-memory_ok c =
+    let e = c.load-s.ensures in
+    let bad = rw e at (sym c.memory_ok.ensures) ∙ c.if-not-memory_ok.true in
+    sym (passed_second (setup_test c.args.m (setting_of c.args.lent.setting.now) c.args.lent.seeds.now c.args.lent.counters (length c.args.lent.ticks.now) c.args.lent.rows c.args.threads) _ _
+    (sym (rw e at c.setup_refusal.ensures) ∙ c.in_ok-setup_refusal.was) ∙ rw (c.if-keeps.true, bad))
 
-pub returns-else-memory_ok : goal.returns-else-memory_ok
-returns-else-memory_ok c =
-    let a = c.args in
-    let s : Setting = setting_of a.setting.now in
-    let h : Head = head_of a.head.now in
-    let front : Refusal = setup_test a.m s a.seeds.now a.counters (length a.ticks.now) a.rows a.threads in
-    let l = c.load-s.ensures in
-    let code_is : c.setup_refusal-code.result ≡ refusal_number front = rw l at c.setup_refusal-code.ensures in
-    let free : refusal_number front ≡ 0 = sym code_is ∙ c.if-code-ne0.false in
-    let test : memory_test s h a.ticks.now ≡ false = rw l at (sym c.memory_ok.ensures) ∙ c.if-memory_ok.false in
-    sym
-    (ap (λ k. refusal_number (lent_test a.m s a.seeds.now h a.counters a.ticks.now a.rows a.threads k)) c.if-not-keeps.false
-    ∙ ap refusal_number (lent_memory a.m s a.seeds.now h a.counters a.ticks.now a.rows a.threads free)
-    ∙ ap (λ x. refusal_number (refuse (not x) bad_memory none)) test)
+pub returns : goal.returns
+unfolding lent_test
+returns c =
+    let e = c.load-s.ensures in
+    sym (passed_second (setup_test c.args.m (setting_of c.args.lent.setting.now) c.args.lent.seeds.now c.args.lent.counters (length c.args.lent.ticks.now) c.args.lent.rows c.args.threads) _ _
+    (sym (rw e at c.setup_refusal.ensures) ∙ c.in_ok-setup_refusal.was)
+    ∙ elim c.else-keeps.branch [
+      | else-keeps-via-then-keeps+else-not-memory_ok w ↦ rw (w.if-keeps.true, rw e at (sym w.memory_ok.ensures) ∙ w.if-not-memory_ok.false)
+      | else-keeps-via-else-keeps w ↦ rw w.if-keeps.false
+    ])

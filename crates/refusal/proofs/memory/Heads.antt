@@ -65,3 +65,9 @@ module _ (s : Setting) (words ticks : List ℕ) where
       memory_tests s (head_of words) ticks
       ∙ ap (λ x. in_ring s (head_of words) ticks && x)
       (ap₂ (λ b r. b && (r && rest)) (banks_words h) rank_words ∙ sym (and_assoc (words_past words 2 s.banks) (words_past words 18 4) rest))
+
+  -- the tests in the order of the code: of the next place, of the head and of the history
+  pub memory_tested : (places : ℕ) (past rest : Bool) → s.banks ≤ 16 → places ≡ history_length s → past ≡ (words_past words 2 s.banks && words_past words 18 4)
+      → rest ≡ (every places (λ p. not_after (get_or words 0 0) (get_or ticks p 0)) && never_rises places (get_or words 1 0) ticks)
+      → memory_test s (head_of words) ticks ≡ (ltb (get_or words 1 0) places && (past && rest))
+  memory_tested places past rest h e p r = rw (e, p, rw e at r) (memory_words h)

@@ -1,20 +1,9 @@
--- A text that grows at its end: a word byte by byte, a line part by part.
-use Prim.Native.Nat.{ℕ, suc, ◌+◌, ◌<◌}
+-- A text that grows at its end: a line part by part.
+use Prim.Native.Nat.{ℕ}
 use mathlib.Core.Path.{◌≡◌, ◌∙◌}
 use mathlib.Core.List.{List, [], ◌∷◌, ◌++◌, append_assoc}
-use native.Mathlib.Omega.{arith}
-use native.Mathlib.Numerals.{add-one}
-use lib.ListN.{length, take, set, get_or}
-use lib.Seq.{take-suc, take-suc-set}
 use Rattle.report.specs.Bytes.{bytes}
 use Rattle.report.specs.Lines.{decimal_of, line_of, line_of_two}
-
--- one byte more of the word
-pub put_more : (out start word : List ℕ) (at i v : ℕ) → at + i < length out → i < length word → v ≡ get_or word i 0 → take (at + i) out ≡ start ++ take i word
-    → take (at + (i + 1)) (set out (at + i) v) ≡ start ++ take (i + 1) word
-put_more out start word at i v h m ev e =
-    let z : at + (i + 1) ≡ suc (at + i) = omega arith in
-    rw (z, take-suc-set out (at + i) v h, e, add-one i, take-suc word i 0 m, ev) (append_assoc start (take i word) (get_or word i 0 ∷ []))
 
 -- t0 is the text before the line, and each further one has a part more
 pub line_law : (word : List ℕ) (n : ℕ) (t0 t1 t2 t3 : List ℕ) → t1 ≡ t0 ++ word → t2 ≡ t1 ++ decimal_of n → t3 ≡ t2 ++ bytes "\n" → t3 ≡ t0 ++ line_of word n

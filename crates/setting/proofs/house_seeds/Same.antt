@@ -8,8 +8,12 @@ use native.Mathlib.Numerals.{add-one}
 use lib.Dec.{eqb, leb, eqb→eq, leb→le, le→leb}
 use lib.Bits.{bit_or, bit_xor, and_le_l, and_le_r, or_add_and, or_lt, xor_add_and, xor_self, xor_shr, xor_zero_r}
 use lib.ListN.{length, get_or}
-use lib.Seq.{ext_get_or}
+use lib.Seq.{ext_get_or, take_all}
 use borrow.Author.Tests.{eq-eqb, ne_eqb, eqb-true}
+use Rattle.std.proofs.Common.{take}
+use Rattle.std.specs.List.{fold, zip}
+use Rattle.std.proofs.lemmas.List.Sums.{fold_more}
+use Rattle.std.proofs.lemmas.Slice.Zip.{length-zip, get_or-zip}
 use Rattle.rules.specs.Cells.{every}
 use Rattle.rules.specs.Setting.{seeds_in_range}
 use Rattle.rules.specs.Samples.{house}
@@ -74,14 +78,14 @@ abbrev same_at : List ℕ → List ℕ → ℕ → Bool
 same_at xs ys j = eqb (get_or xs j 0) (get_or ys j 0)
 
 -- so many seeds are passed: what the bits in which they differ from the house seeds say of them
-pub record Passed (seeds : List ℕ) (i differing : ℕ) : Type 0 where
-  pub none : eqb differing 0 ≡ every i (same_at seeds house)
-  pub low : leb differing 1023 ≡ every i (λ j. leb (get_or seeds j 0) 1023)
+record Passed (seeds : List ℕ) (i differing : ℕ) : Type 0 where
+  none : eqb differing 0 ≡ every i (same_at seeds house)
+  low : leb differing 1023 ≡ every i (λ j. leb (get_or seeds j 0) 1023)
 
-pub passed_none : (seeds : List ℕ) → Passed seeds 0 0
+passed_none : (seeds : List ℕ) → Passed seeds 0 0
 passed_none seeds = record { none = refl; low = refl }
 
-pub passed_more : (seeds : List ℕ) (i differing : ℕ) → Passed seeds i differing → Passed seeds (i + 1) (bit_or differing (bit_xor (get_or seeds i 0) (get_or house i 0)))
+passed_more : (seeds : List ℕ) (i differing : ℕ) → Passed seeds i differing → Passed seeds (i + 1) (bit_or differing (bit_xor (get_or seeds i 0) (get_or house i 0)))
 passed_more seeds i differing p =
     record {
       none = rw (add-one i, ← p.none) (no_other differing (get_or seeds i 0) (get_or house i 0));
@@ -97,7 +101,7 @@ same_lists : (n : ℕ) (xs ys : List ℕ) → length xs ≡ n → length ys ≡ 
 same_lists n xs ys ex ey h =
     ext_get_or 0 xs ys (ex ∙ sym ey) (λ i below. eqb→eq (get_or xs i 0) (get_or ys i 0) (every_at n (same_at xs ys) (holds (every n (same_at xs ys)) h) i (omega arith)))
 
-pub passed_all : (seeds : List ℕ) (differing : ℕ) → length seeds ≡ 64 → Passed seeds 64 differing → Differing differing seeds
+passed_all : (seeds : List ℕ) (differing : ℕ) → length seeds ≡ 64 → Passed seeds 64 differing → Differing differing seeds
 unfolding seeds_in_range
 passed_all seeds differing long p =
     record {
@@ -105,6 +109,25 @@ passed_all seeds differing long p =
       none = λ z. same_lists 64 seeds house long (seeds_long house house_in_range) (sym p.none ∙ eq-eqb differing 0 z);
       of_house = λ e. eqb-true differing 0 (p.none ∙ rw e (every_same 64 house));
     }
+
+-- the bits of one pair more
+abbrev pub with_pair : ℕ → (ℕ × ℕ) → ℕ
+with_pair bits pair = bit_or bits (bit_xor pair.0 pair.1)
+
+module _ (seeds : List ℕ) (long : length seeds ≡ 64) where
+  pairs : length (zip seeds house) ≡ 64
+  pairs = length-zip seeds house ∙ rw (long, seeds_long house house_in_range)
+
+  passed_pairs : (i : ℕ) → i ≤ 64 → Passed seeds i (fold with_pair 0 (take i (zip seeds house)))
+  passed_pairs zero h = passed_none seeds
+  passed_pairs (suc i) h =
+      let inside : i < length (zip seeds house) = omega (arith, pairs) in
+      let more = fold_more with_pair 0 (zip seeds house) i (0, 0) inside in
+      let pair = get_or-zip seeds house i (0, 0) (omega (arith, long)) (omega (arith, seeds_long house house_in_range)) in
+      rw (← add-one i, more, pair) (passed_more seeds i (fold with_pair 0 (take i (zip seeds house))) (passed_pairs i (omega arith)))
+
+  pub differing_pairs : Differing (fold with_pair 0 (zip seeds house)) seeds
+  differing_pairs = passed_all seeds _ long (rw (take_all 64 (zip seeds house) (omega (arith, pairs))) at (passed_pairs 64 (omega arith)))
 
 -- other than 64 seeds are out of range, and are not the house seeds
 pub other_length : (seeds : List ℕ) → (length seeds ≡ 64 → ⊥) → Differing 65535 seeds

@@ -1,32 +1,35 @@
 -- What the calls for Rattle callers tell, refused or not.
 use Prim.Native.Nat.{ℕ}
 use mathlib.Core.Path.{◌≡◌, refl, sym, ap, ◌∙◌}
-use mathlib.Core.Logic.{◌≢◌}
 use mathlib.Core.List.{List}
-use mathlib.Core.Bool.{Bool, true, false}
-use lib.Dec.{eqb}
-use lib.ListN.{get_or}
+use mathlib.Core.Bool.{Bool, true≢false}
+use Rattle.std.specs.Prelude.{Result, Ok, Err, IsErrAnd}
 use Rattle.head.specs.declared.Head.{Head}
 use Rattle.head.specs.Head.{moved_head}
 use Rattle.rules.specs.declared.Setting.{Setting}
 use Rattle.rules.specs.declared.Limits.{Limits}
 use Rattle.rules.specs.declared.Answer.{Answer}
-use Rattle.rules.specs.Answers.{Refusal, none, short_buffer, none_in_flight, refusal_number, refuse}
+use Rattle.rules.specs.Answers as rules
+use Rattle.rules.specs.Answers.{none, short_buffer, refusal_number, refuse}
 use Rattle.rules.specs.Setting.{setting_refusal}
-use Rattle.rules.specs.State.{State, counters_used, threads_used, thread_cell, state, too_short, fresh}
+use Rattle.rules.specs.State.{State, counters_used, threads_used, state, too_short, fresh}
 use Rattle.rules.specs.Clock.{epoch, turned_counters, turned_threads, turned}
 use Rattle.rules.specs.History.{memory_ok}
 use Rattle.rules.specs.Policy.{limits01}
 use Rattle.rules.specs.Tested.{Taken, Sound}
-use Rattle.rules.specs.Calls.{answered, finished, Outcome, outcome, setup, setup_refusal, call_refusal, done_refusal, unless_refused, one_less, reported}
+use Rattle.rules.specs.Calls.{answered, finished, Outcome, outcome, setup, setup_refusal, call_refusal, unless_refused, one_less, reported}
 use Rattle.rules.proofs.Tests.{is_true}
 use Rattle.rules.proofs.Accept.{or_else_none, set_up_lem}
 use Rattle.rules.proofs.Memory.{memory_ok_lem, taken_memory, turned_long, reported_long}
 use Rattle.rules.proofs.Step.{unless_taken, unless_refused_lem}
 use Rattle.rules.proofs.Sound.{long_not_short, fresh_sound}
+use Rattle.hash_rules.specs.Words.{TableFor}
+use Rattle.refused.specs.declared.Refusal.{Refusal}
+use Rattle.refused.specs.Numbers.{number_of, code_of}
+use Rattle.refused.specs.Passed.{passed}
+use Rattle.refused.proofs.Laws.{code_passed, passed_err}
 use Rattle.refusal.specs.Tests.{place_refusal}
-use Rattle.refusal.proofs.Refusals.{or_else_first, or_else_second}
-use Rattle.sound.specs.Told.{Begun, Told, Over}
+use Rattle.sound.specs.Told.{table_of, Begun, Told, Over}
 
 -- ---- refusals on a state that passed the tests
 
@@ -36,65 +39,69 @@ pub place_only : (m : Limits) (s : Setting) (seeds : List ℕ) (st : State) → 
 unfolding call_refusal place_refusal
 place_only m s seeds st accepted ok tick bank thread = rw (accepted, long_not_short s st ok.long, is_true (memory_ok s st) (memory_ok_lem s st ok.ok))
 
--- and 10 of a done
-pub done_first : (m : Limits) (s : Setting) (seeds : List ℕ) (st : State) (tick bank thread : ℕ) → refusal_number (call_refusal m s seeds st tick bank thread) ≢ 0
-    → done_refusal m s seeds st tick bank thread ≡ call_refusal m s seeds st tick bank thread
-unfolding done_refusal
-done_first m s seeds st tick bank thread h = or_else_first (call_refusal m s seeds st tick bank thread) _ h
-
-pub done_last : (m : Limits) (s : Setting) (seeds : List ℕ) (st : State) (tick bank thread : ℕ) → refusal_number (call_refusal m s seeds st tick bank thread) ≡ 0
-    → done_refusal m s seeds st tick bank thread ≡ refuse (eqb (get_or st.threads (thread_cell s bank thread 2) 0) 0) none_in_flight none
-unfolding done_refusal
-done_last m s seeds st tick bank thread h = or_else_second (call_refusal m s seeds st tick bank thread) _ h
+-- the number of what is given back is that of the refusal
+number_up : (r : rules.Refusal) (x y : Refusal) → passed r ≡ Err x → y ≡ x → number_of y ≡ refusal_number r
+number_up r x y e h = ap number_of h ∙ sym (ap code_of e) ∙ code_passed r
 
 -- ---- set-up
 
+-- nothing is said of the seeds where set-up is refused
+pub no_table : (seeds : List ℕ) (back : Result Bool Refusal) (P : Refusal → Type 0) → IsErrAnd back P → TableFor (table_of back) seeds
+no_table seeds (Ok table) P h = absurd h
+no_table seeds (Err y) P h = λ e. absurd (true≢false (sym e))
+
 module _ (s : Setting) (seeds : List ℕ) (st : State) where
-  abbrev r : Refusal
+  abbrev r : rules.Refusal
   r = setup_refusal limits01 s seeds st
 
-  pub begun_refused : (code : ℕ) → code ≡ refusal_number r → code ≢ 0 → Begun s seeds code st (setup limits01 s seeds st)
+  pub begun_refused : (back : Result Bool Refusal) (x : Refusal) → passed r ≡ Err x → IsErrAnd back (λ y. y ≡ x)
+      → Begun s seeds back st (setup limits01 s seeds st)
   unfolding setup
-  begun_refused code e h =
-      let u = unless_refused_lem r st (outcome finished (fresh s st)) (λ z. h (e ∙ z)) in
-      record { code_is = rw u e; finished_is = λ z. absurd (h z); state_is = rw u refl; accepted = λ z. absurd (h z); sound = λ z. absurd (h z) }
+  begun_refused (Ok table) x e h = absurd h
+  begun_refused (Err y) x e h =
+      let u = unless_refused_lem r st (outcome finished (fresh s st)) (passed_err r x e) in
+      record { code_is = rw u (number_up r x y e h); finished_is = tt; state_is = rw u refl; accepted = tt; sound = tt }
 
-  pub begun_taken : (z : State) → r ≡ none → z ≡ fresh s st → Begun s seeds 0 z (setup limits01 s seeds st)
+  pub begun_taken : (table : Bool) (z : State) → r ≡ none → z ≡ fresh s st → Begun s seeds (Ok table) z (setup limits01 s seeds st)
   unfolding setup setup_refusal
-  begun_taken z e ez =
+  begun_taken table z e ez =
       let u = unless_taken r st (outcome finished (fresh s st)) (ap refusal_number e) in
       record {
         code_is = rw u refl;
-        finished_is = λ _. rw u refl;
+        finished_is = rw u refl;
         state_is = rw u ez;
-        accepted = λ _. (or_else_none (setting_refusal limits01 s seeds) (refuse (too_short s st) short_buffer none) e).0;
-        sound = λ _. rw ez (fresh_sound limits01 s seeds st (set_up_lem limits01 s seeds st e));
+        accepted = (or_else_none (setting_refusal limits01 s seeds) (refuse (too_short s st) short_buffer none) e).0;
+        sound = rw ez (fresh_sound limits01 s seeds st (set_up_lem limits01 s seeds st e));
       }
 
 -- ---- a request
 
-module _ (s : Setting) (r : Refusal) (st : State) where
-  pub told_refused : (o : Outcome) (code : ℕ) (a : Answer) → code ≡ refusal_number r → code ≢ 0 → Sound s st → Told s code a st (unless_refused r st o)
-  told_refused o code a e h ok =
-      let u = unless_refused_lem r st o (λ z. h (e ∙ z)) in
-      record { code_is = rw u e; answer_is = λ z. absurd (h z); state_is = rw u refl; sound = ok }
+module _ (s : Setting) (r : rules.Refusal) (st : State) where
+  pub told_refused : (o : Outcome) (back : Result Answer Refusal) (x : Refusal) → passed r ≡ Err x → IsErrAnd back (λ y. y ≡ x) → Sound s st
+      → Told s back st (unless_refused r st o)
+  told_refused o (Ok a) x e h ok = absurd h
+  told_refused o (Err y) x e h ok =
+      let u = unless_refused_lem r st o (passed_err r x e) in
+      record { code_is = rw u (number_up r x y e h); answer_is = tt; state_is = rw u refl; sound = ok }
 
-  pub told_taken : (o : Outcome) (a : Answer) (z : State) → refusal_number r ≡ 0 → outcome (answered a) z ≡ o → Sound s z → Told s 0 a z (unless_refused r st o)
+  pub told_taken : (o : Outcome) (a : Answer) (z : State) → r ≡ none → outcome (answered a) z ≡ o → Sound s z → Told s (Ok a) z (unless_refused r st o)
   told_taken o a z e eo ok =
-      let u = unless_taken r st o e ∙ sym eo in
-      record { code_is = rw u refl; answer_is = λ _. rw u refl; state_is = rw u refl; sound = ok }
+      let u = unless_taken r st o (ap refusal_number e) ∙ sym eo in
+      record { code_is = rw u refl; answer_is = rw u refl; state_is = rw u refl; sound = ok }
 
   -- ---- a done
 
-  pub over_refused_lem : (o : Outcome) (code : ℕ) → code ≡ refusal_number r → code ≢ 0 → Sound s st → Over s code st (unless_refused r st o)
-  over_refused_lem o code e h ok =
-      let u = unless_refused_lem r st o (λ z. h (e ∙ z)) in
-      record { code_is = rw u e; finished_is = λ z. absurd (h z); state_is = rw u refl; sound = ok }
+  pub over_refused_lem : (o : Outcome) (back : Result (Unit {0}) Refusal) (x : Refusal) → passed r ≡ Err x → IsErrAnd back (λ y. y ≡ x) → Sound s st
+      → Over s back st (unless_refused r st o)
+  over_refused_lem o (Ok a) x e h ok = absurd h
+  over_refused_lem o (Err y) x e h ok =
+      let u = unless_refused_lem r st o (passed_err r x e) in
+      record { code_is = rw u (number_up r x y e h); finished_is = tt; state_is = rw u refl; sound = ok }
 
-  pub over_taken : (o : Outcome) (z : State) → refusal_number r ≡ 0 → outcome finished z ≡ o → Sound s z → Over s 0 z (unless_refused r st o)
-  over_taken o z e eo ok =
-      let u = unless_taken r st o e ∙ sym eo in
-      record { code_is = rw u refl; finished_is = λ _. rw u refl; state_is = rw u refl; sound = ok }
+  pub over_taken : (o : Outcome) (u : Unit {0}) (z : State) → r ≡ none → outcome finished z ≡ o → Sound s z → Over s (Ok u) z (unless_refused r st o)
+  over_taken o u z e eo ok =
+      let w = unless_taken r st o (ap refusal_number e) ∙ sym eo in
+      record { code_is = rw w refl; finished_is = rw w refl; state_is = rw w refl; sound = ok }
 
 -- the state after a done, from its parts
 pub done_parts : (s : Setting) (st : State) (tick bank thread : ℕ) (h : Head) (counters threads : List ℕ)
@@ -111,8 +118,3 @@ pub done_sound : (m : Limits) (s : Setting) (seeds : List ℕ) (st : State) (tic
 unfolding reported
 done_sound m s seeds st tick bank thread k =
     record { long = reported_long s (turned s st tick) bank thread (turned_long s st tick k.long); ok = taken_memory k }
-
--- a refusal by what is in flight is 10
-pub flying_ten : (q : Bool) (code : ℕ) → code ≡ refusal_number (refuse q none_in_flight none) → code ≢ 0 → code ≡ 10
-flying_ten true code e h = e
-flying_ten false code e h = absurd (h e)

@@ -1,11 +1,12 @@
 -- A view, put together from what the leaves give.
-use Prim.Native.Nat.{ℕ, ◌+◌, ◌-◌, ◌*◌, ◌/◌, ◌^◌, ◌≤◌, ◌<◌}
+use Prim.Native.Nat.{ℕ, ◌+◌, ◌*◌, ◌/◌, ◌^◌, ◌≤◌, ◌<◌}
+use Rattle.std.proofs.Common.{Option}
 use mathlib.Core.Path.{◌≡◌, sym, ap, ◌∙◌}
 use mathlib.Core.List.{List}
 use mathlib.Core.Bool.{Bool, true, false, ◌&&◌, cond}
 use native.Mathlib.Omega.{arith}
 use native.Mathlib.Nat.{div-mul-le_self}
-use lib.Dec.{ltb, eqb}
+use lib.Dec.{ltb}
 use lib.ListN.{get_or}
 use Rattle.head.specs.declared.Head.{Head}
 use Rattle.rules.specs.declared.Setting.{Setting}
@@ -20,6 +21,8 @@ use Rattle.rules.proofs.Tests.{is_true, every_all}
 use Rattle.rules.proofs.Memory.{after_not}
 use Rattle.rules.proofs.Regular.{in_force_sums}
 use Rattle.rules.specs.Tested.{Memory}
+use Rattle.history.specs.Found.{place_found, end_of}
+use Rattle.history.proofs.Found.{end_found}
 use Rattle.decision.specs.declared.View.{View}
 use Rattle.decision.specs.Numbers.{delay_end, view_of}
 
@@ -39,16 +42,13 @@ searchable s h ticks m = (
       (every_all (history_length s) (λ p. not_after h.last (get_or ticks p 0)) (λ p k. after_not h.last (get_or ticks p 0) (m.history p k))),
 )
 
-pub delay_skipped : (skip a b : Bool) (d : ℕ) → skip ≡ (a && b) → skip ≡ true → 0 ≡ cond (a && b) 0 d
-delay_skipped skip a b d e h = ap (λ x. cond x 0 d) (sym h ∙ e)
-
-pub delay_found : (s : Setting) (h : Head) (ticks rows : List ℕ) (bank row : ℕ) (skip a b : Bool) (places found word d : ℕ)
-    → skip ≡ (a && b) → skip ≡ false → places ≡ history_length s → word ≡ row_word bank row
-    → found ≡ find places s.td h.next ticks rows word h.last → d ≡ cond (eqb found places) 0 (get_or ticks found 0 - 1 + s.td)
-    → d ≡ cond (a && b) 0 (delay_end s h ticks rows bank row)
+pub delay_found : (s : Setting) (h : Head) (ticks rows : List ℕ) (bank row : ℕ) (skip : Bool) (places : ℕ) (found : Option ℕ) (word d : ℕ)
+    → skip ≡ false → places ≡ history_length s → word ≡ row_word bank row
+    → found ≡ place_found places (find places s.td h.next ticks rows word h.last) → d ≡ end_of ticks s.td found
+    → d ≡ cond skip 0 (delay_end s h ticks rows bank row)
 unfolding delay_end
-delay_found s h ticks rows bank row skip a b places found word d es left ep ew ef ed =
-    rw (← es, left, ed, ef, ep, ew)
+delay_found s h ticks rows bank row skip places found word d left ep ew ef ed =
+    rw (left, ed, ef, end_found ticks s.td places (find places s.td h.next ticks rows word h.last), ep, ew)
 
 -- ---- the view
 

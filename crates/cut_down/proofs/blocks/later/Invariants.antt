@@ -1,5 +1,5 @@
 -- `later` goes over the blocks after block 0 up to the first refusal.
-use Prim.Native.Nat.{◌-◌, ◌%◌}
+use Prim.Native.Nat.{◌%◌}
 use lib.Dec.{eqb}
 use lib.ListN.{length}
 use Rattle.cut_down.proofs.blocks.Through.{Through}
@@ -7,6 +7,3 @@ use Rattle.cut_down.proofs.blocks.later.Given as goal
 
 abbrev pub invariant-loop-b : goal.invariant-loop-b
 invariant-loop-b l = Through l.bytes l.n (eqb (length l.bytes % 512) 0) l.b l.before l.records
-
-abbrev pub decreases-loop-b : goal.decreases-loop-b
-decreases-loop-b l = l.n - l.b

@@ -1,7 +1,5 @@
 -- `passes`: the passes from the number at hand come to the result; the number is the measure.
-use mathlib.Core.Path.{◌≡◌}
 use Prim.Native.Nat.{◌^◌, ◌<◌}
-use lib.ListN.{length}
 use Rattle.rules.specs.Policy.{narrow}
 use Rattle.cut_rules.specs.selections.Selections.{bits}
 use Rattle.cut_rules.proofs.selections.Passes.{Settles}
@@ -9,13 +7,7 @@ use Rattle.cut_rules.specs.Cut.{differs_with}
 use Rattle.cut_down.proofs.passes.passes.Given as goal
 
 abbrev pub invariant-loop-kept : goal.invariant-loop-kept
-invariant-loop-kept l =
-    (length l.counters ≡ length l.initial.counters)
-    × (length l.ticks ≡ length l.initial.ticks)
-    × (length l.rows ≡ length l.initial.rows)
-    × (length l.threads ≡ length l.initial.threads)
-    × (l.kept < 2 ^ l.n)
-    × Settles (differs_with narrow l.bytes) l.n (bits l.n l.kept)
+invariant-loop-kept l = (l.kept < 2 ^ l.n) × Settles (differs_with narrow l.bytes) l.n (bits l.n l.kept)
 
 abbrev pub decreases-loop-kept : goal.decreases-loop-kept
 decreases-loop-kept l = l.kept

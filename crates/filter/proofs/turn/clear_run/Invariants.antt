@@ -1,11 +1,6 @@
--- `turn::clear_run` meets its contract. The loop has cleared the run of the i cells from start on.
-use Prim.Native.Nat.{◌-◌}
-use Rattle.rules.proofs.Clearing.{Cleared}
-use Rattle.filter.specs.turn.Changes.{in_run}
+-- `turn::clear_run` meets its contract. The loop has cleared the first counters of the run.
+use Rattle.std.proofs.Common.{◌≡◌, ℕ, ◌<◌, map, get_or}
 use Rattle.filter.proofs.turn.clear_run.Given as goal
 
-abbrev pub invariant-loop-i : goal.invariant-loop-i
-invariant-loop-i l = Cleared (in_run l.start) l.n l.initial.counters l.i l.counters
-
-abbrev pub decreases-loop-i : goal.decreases-loop-i
-decreases-loop-i l = l.n - l.i
+abbrev pub invariant-loop-c : goal.invariant-loop-c
+invariant-loop-c g l = (j : ℕ) → j < l.c-index → get_or (map g.C.Counter.value l.c-items) j 0 ≡ 0

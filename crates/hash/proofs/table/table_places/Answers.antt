@@ -3,4 +3,5 @@ use Rattle.hash.proofs.table.Table.{table_places}
 use Rattle.hash.proofs.table.table_places.Goals as goal
 
 pub returns : goal.returns
-returns c = table_places c.args.row c.high.result c.low.result c.high.ensures c.low.ensures
+returns c =
+    table_places c.args.row c.high.result c.low.result (rw c.from-bits.ensures at c.high.ensures) (rw c.from-bits.ensures at c.low.ensures)

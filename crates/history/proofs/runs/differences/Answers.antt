@@ -4,15 +4,13 @@ use Rattle.history.proofs.runs.Near.{near_none, near_more, near_all}
 use Rattle.history.proofs.runs.differences.Goals as goal
 
 pub loop-k-init : goal.loop-k-init
-loop-k-init c = (omega arith, λ z. near_none c.args.ticks.now c.args.i)
+loop-k-init c = λ z. near_none c.args.ticks.now c.args.i
 
 pub loop-k-preserved : goal.loop-k-preserved
-loop-k-preserved c =
-    let a = c.args in
-    (omega arith, near_more a.ticks.now a.i c.loop-k.k c.loop-k.all c.wrapping_sub_u64-all.result c.loop-k.invariant.1 c.wrapping_sub_u64-all.ensures.value)
+loop-k-preserved c = near_more c.args.ticks.now c.args.i c.loop-k.k c.loop-k.all c.loop-k.invariant c.type_inv.ticks
 
 pub returns : goal.returns
 returns c =
     let a = c.args in
     let z : c.loop-k.k ≡ a.m = omega arith in
-    λ h. near_all a.ticks.now a.i a.m (omega arith) (omega arith) (rw z at c.loop-k.invariant.1 h)
+    λ h. near_all a.ticks.now a.i a.m c.requires.1 c.requires.2 (rw z at (c.loop-k.invariant h))

@@ -1,10 +1,7 @@
 -- `differences` meets its contract. The invariant: while the or is small, the differences passed wrapped at most once.
-use Rattle.std.proofs.Common.{◌-◌, ◌^◌, ◌<◌, ◌≤◌}
+use Rattle.std.proofs.Common.{◌^◌, ◌<◌}
 use Rattle.history.proofs.runs.Near.{Near}
 use Rattle.history.proofs.runs.differences.Given as goal
 
 abbrev pub invariant-loop-k : goal.invariant-loop-k
-invariant-loop-k l = (l.k ≤ l.m) × (l.all < 2 ^ 58 → Near l.ticks l.i l.k)
-
-abbrev pub decreases-loop-k : goal.decreases-loop-k
-decreases-loop-k l = l.m - l.k
+invariant-loop-k l = l.all < 2 ^ 58 → Near l.ticks l.i l.k

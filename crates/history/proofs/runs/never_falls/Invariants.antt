@@ -1,10 +1,7 @@
 -- `never_falls` meets its contract, block by block. The invariant: the blocks passed do not fall.
-use Rattle.std.proofs.Common.{◌-◌, ◌≤◌, T}
+use Rattle.std.proofs.Common.{◌*◌, T}
 use Rattle.history.specs.Runs.{never_falls}
 use Rattle.history.proofs.runs.never_falls.Given as goal
 
-abbrev pub invariant-loop-k : goal.invariant-loop-k
-invariant-loop-k l = (l.k ≤ l.n) × T (never_falls l.ticks l.i l.k)
-
-abbrev pub decreases-loop-k : goal.decreases-loop-k
-decreases-loop-k l = l.n - l.k
+abbrev pub invariant-loop-b : goal.invariant-loop-b
+invariant-loop-b l = T (never_falls l.ticks l.i (64 * l.b))

@@ -1,20 +1,27 @@
 -- `judge_done` calls the model; the rules answer 0 and wait for nothing.
+use Rattle.std.proofs.Common.{rules}
 use Rattle.rules.specs.State.{State, state}
+use Rattle.sound.specs.Held.{held}
 use Rattle.judge.proofs.judged.Entries.{done_refused, done_settled}
 use Rattle.judge.proofs.entry.judge_done.Goals as goal
 
-pub returns-then-code-ne0 : goal.returns-then-code-ne0
-returns-then-code-ne0 c =
-    let entry : State = let a = c.args in state a.h a.counters.now a.ticks.now a.rows.now a.threads.now in
-    let exit : State = let a = c.args in state c.done-q.result.head c.done-q.new.counters a.ticks.now a.rows.now c.done-q.new.threads in
+pub returns-in-Err : goal.returns-in-Err
+returns-in-Err c =
     let a = c.args in
-    rw c.refused.ensures
-    (done_refused a.s a.seeds.now a.p entry a.e c.requires.3 c.done-q.result.code exit c.done-q.ensures c.done-q.result.head c.if-code-ne0.true)
+    let n = c.done.new in
+    let k = c.named.ensures in
+    let before : State = held a.h.now a.m.now in
+    let after : State = state n.h n.counters a.m.now.ticks.now a.m.now.rows.now n.threads in
+    record {
+      same = search rules;
+      judged = rw (c.refused.ensures, c.from-in-Err.ensures, c.from.ensures) (done_refused a.s a.seeds.now a.p before a.e c.requires.3 after c.in-Err.refusal (rw (k.0, k.1, k.2) at c.in-Err.ensures));
+    }
 
-pub returns : goal.returns
-returns c =
-    let entry : State = let a = c.args in state a.h a.counters.now a.ticks.now a.rows.now a.threads.now in
-    let exit : State = let a = c.args in state c.done-q.result.head c.done-q.new.counters a.ticks.now a.rows.now c.done-q.new.threads in
+pub returns-in-Ok : goal.returns-in-Ok
+returns-in-Ok c =
     let a = c.args in
-    rw c.settle.ensures
-    (done_settled a.s a.seeds.now a.p entry a.e c.requires.3 c.done-q.result.code exit c.done-q.ensures c.done-q.result.head c.if-code-ne0.false)
+    let n = c.done.new in
+    let k = c.named.ensures in
+    let before : State = held a.h.now a.m.now in
+    let after : State = state n.h n.counters a.m.now.ticks.now a.m.now.rows.now n.threads in
+    record { same = search rules; judged = rw c.settle.ensures (done_settled a.s a.seeds.now a.p before a.e c.requires.3 after _ (rw (k.0, k.1, k.2) at c.in-Ok.ensures)) }

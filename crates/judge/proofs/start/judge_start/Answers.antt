@@ -1,14 +1,32 @@
 -- `judge_start` takes setting and seeds from block 0 and sets the model up.
-use Rattle.rules.specs.State.{state}
-use Rattle.judge.specs.Blocks.{read_so_far}
-use Rattle.judge.proofs.reading.Start.{start_judged}
+use Rattle.rules.specs.State.{State}
+use Rattle.sound.specs.Held.{held}
+use Rattle.log_format.specs.Verdict.{Running}
+use Rattle.judge.specs.Blocks.{read_in}
+use Rattle.judge.proofs.reading.Start.{start_refused, start_on}
 use Rattle.judge.proofs.start.judge_start.Goals as goal
 
-pub returns : goal.returns
-returns c =
-    let a = c.args in (
-      start_judged (read_so_far a.x a.counters.now a.ticks.now a.rows.now a.threads.now) a.block.now c.setting-s.result c.seeds-seeds.result c.setup-q.result.code
-          (state c.setup-q.result.head c.setup-q.new.counters c.setup-q.new.ticks c.setup-q.new.rows c.setup-q.new.threads)
-          c.setting-s.ensures c.seeds-seeds.ensures c.setup-q.ensures.0,
-      c.setup-q.ensures.1,
-    )
+pub returns-in-Err : goal.returns-in-Err
+returns-in-Err c =
+    let a = c.args in
+    let n = c.setup.new in
+    let before : Running = read_in a.x a.m.now in
+    let after : State = held n.h n.m in
+    record {
+      same = c.in-Err.ensures.same;
+      judged = rw (c.from-in-Err.ensures, c.from.ensures)
+          (start_refused before a.block.now c.setting-setting.result c.seeds-seeds.result after c.setting-setting.ensures c.seeds-seeds.ensures c.in-Err.refusal c.in-Err.ensures.begun);
+      carried = tt;
+    }
+
+pub returns-in-Ok : goal.returns-in-Ok
+returns-in-Ok c =
+    let a = c.args in
+    let n = c.setup.new in
+    let before : Running = read_in a.x a.m.now in
+    let after : State = held n.h n.m in
+    record {
+      same = c.in-Ok.ensures.same;
+      judged = start_on before a.block.now c.setting-setting.result c.seeds-seeds.result after c.setting-setting.ensures c.seeds-seeds.ensures c.in-Ok.table c.in-Ok.ensures.begun;
+      carried = c.in-Ok.ensures.table;
+    }

@@ -1,7 +1,15 @@
 -- `read::word16`: two bytes, the lower one first.
+use mathlib.Core.Path.{◌≡◌, ◌∙◌}
+use Prim.Native.Nat.{◌+◌, ◌-◌}
 use native.Mathlib.Omega.{arith}
-use Rattle.log_format.proofs.Numbers.{little_two}
+use lib.ListN.{take, drop}
+use Rattle.std.proofs.Common.{rules}
+use Rattle.log_bytes.proofs.Words.{little_cut, read_2}
 use Rattle.log_bytes.proofs.read.word16.Goals as goal
 
 pub returns : goal.returns
-returns c = (little_two c.args.block.now c.args.at c.byte.result c.byte-2.result c.byte.ensures.0 c.byte-2.ensures.0, omega arith)
+returns c =
+    let s = c.args.block.now in
+    let cut = rw c.unwrap.ensures at c.try_into.ensures in
+    let u : c.unwrap.result ≡ take (c.args.at + 2 - c.args.at) (drop c.args.at s) = search rules in
+    (c.from.ensures ∙ c.from_le_bytes.ensures ∙ read_2 c.unwrap.result ∙ little_cut s c.unwrap.result c.args.at 2 u, omega arith)

@@ -1,6 +1,14 @@
--- `read::word64`: two numbers of 32 bits, the lower one first.
-use Rattle.log_format.proofs.Numbers.{little_eight}
+-- `read::word64`: eight bytes, the lowest first.
+use mathlib.Core.Path.{◌≡◌, ◌∙◌}
+use Prim.Native.Nat.{◌+◌, ◌-◌}
+use lib.ListN.{take, drop}
+use Rattle.std.proofs.Common.{rules}
+use Rattle.log_bytes.proofs.Words.{little_cut, read_8}
 use Rattle.log_bytes.proofs.read.word64.Goals as goal
 
 pub returns : goal.returns
-returns c = little_eight c.args.block.now c.args.at c.word32.result c.word32-2.result c.word32.ensures.0 c.word32-2.ensures.0
+returns c =
+    let s = c.args.block.now in
+    let cut = rw c.unwrap.ensures at c.try_into.ensures in
+    let u : c.unwrap.result ≡ take (c.args.at + 8 - c.args.at) (drop c.args.at s) = search rules in
+    c.from_le_bytes.ensures ∙ read_8 c.unwrap.result ∙ little_cut s c.unwrap.result c.args.at 8 u

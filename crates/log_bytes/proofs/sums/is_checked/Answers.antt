@@ -4,4 +4,4 @@ use Rattle.log_bytes.proofs.sums.is_checked.Goals as goal
 
 pub returns : goal.returns
 unfolding checked
-returns c = simp (c.and.ensures, c.word16.ensures.0, c.word16-2.ensures.0, c.add_up-s.ensures.0, c.add_up-s.ensures.1)
+returns c = simp (c.word16.ensures.0, c.word16-2.ensures.0, c.from-plain.ensures, c.from-weighted.ensures, c.add_up-s.ensures.0, c.add_up-s.ensures.1)

@@ -7,13 +7,15 @@ use Rattle.log_format.proofs.Numbers.{halves_more, halves_all}
 use Rattle.log_read.proofs.contents.seeds.Goals as goal
 
 pub loop-i-init : goal.loop-i-init
-loop-i-init c = (omega arith, refl, refl)
+loop-i-init c = (refl, refl)
 
 pub loop-i-preserved : goal.loop-i-preserved
-loop-i-preserved c =
-    (omega arith, simp length-set c.loop-i.invariant.1, halves_more c.args.block.now c.loop-i.out 44 64 c.loop-i.i c.word16.result (omega arith) c.loop-i.invariant.1 c.word16.ensures.0 c.loop-i.invariant.2)
+loop-i-preserved c = (
+  simp length-set c.loop-i.invariant.0,
+  halves_more c.args.block.now c.loop-i.seed-items 44 64 c.loop-i.i c.word16.result (omega arith) c.loop-i.invariant.0 c.word16.ensures.0 c.loop-i.invariant.1,
+)
 
 pub returns : goal.returns
 unfolding seeds_in
 returns c =
-    halves_all c.args.block.now c.loop-i.out 44 64 c.loop-i.i (omega arith) c.loop-i.invariant.1 c.loop-i.invariant.2
+    halves_all c.args.block.now c.loop-i.seed-items 44 64 c.loop-i.i (omega arith) c.loop-i.invariant.0 c.loop-i.invariant.1

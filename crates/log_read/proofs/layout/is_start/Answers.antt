@@ -4,5 +4,4 @@ use Rattle.log_read.proofs.layout.is_start.Goals as goal
 
 pub returns : goal.returns
 unfolding start_laid_out
-returns c =
-    simp (c.and.ensures, c.are_zero.ensures, c.and-marked.ensures, c.is_known.ensures, c.byte-2.ensures.0, c.byte.ensures.0)
+returns c = simp (c.are_zero.ensures, c.is_known.ensures, c.byte-2.ensures.0, c.byte.ensures.0)

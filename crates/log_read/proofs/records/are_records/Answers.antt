@@ -1,18 +1,16 @@
--- `are_records`. The loop's invariant: the tests of the records passed hold together.
-use mathlib.Core.Path.{◌≡◌, refl, ◌∙◌}
+-- `are_records`: the test of each record.
+use mathlib.Core.Path.{refl, ◌∙◌}
+use Prim.Native.Nat.{ℕ}
 use native.Mathlib.Omega.{arith}
+use Rattle.std.proofs.Common.{rules}
+use Rattle.std.proofs.lemmas.Iterator.{YieldsList-from_range}
+use Rattle.std.proofs.lemmas.Iterator.Search.{all_from_yields_List}
 use Rattle.log_format.specs.Blocks.{record_laid_out}
-use Rattle.log_bytes.proofs.Zeros.{every_more}
+use Rattle.log_bytes.proofs.Every.{every_range}
 use Rattle.log_read.proofs.records.are_records.Goals as goal
-
-pub loop-k-init : goal.loop-k-init
-loop-k-init c = (omega arith, refl)
-
-pub loop-k-preserved : goal.loop-k-preserved
-loop-k-preserved c =
-    (omega arith, every_more (λ j. record_laid_out c.args.block.now j) c.loop-k.k c.loop-k.ok c.is_record.result c.and-ok.result c.loop-k.invariant.1 c.is_record.ensures c.and-ok.ensures)
 
 pub returns : goal.returns
 returns c =
-    let e : c.loop-k.k ≡ c.args.n = omega arith in
-    c.loop-k.invariant.1 ∙ simp e
+    let p = λ (k : ℕ). record_laid_out c.args.block.now k in
+    all_from_yields_List p _ _ c.all.result c.all.ensures.ran (YieldsList-from_range 0 c.args.n c.args.n refl (omega arith)) (λ x b q k. search rules)
+    ∙ every_range p c.args.n

@@ -4,4 +4,4 @@ use Rattle.log_read.proofs.records.is_record.Goals as goal
 
 pub returns : goal.returns
 unfolding record_laid_out
-returns c = simp (c.and.ensures, c.and-named.ensures, c.are_zero.ensures, c.byte.ensures.0, c.byte-2.ensures.0)
+returns c = simp (c.are_zero.ensures, c.byte.ensures.0, c.byte-2.ensures.0)

@@ -6,4 +6,6 @@ use Rattle.log_writer.proofs.frame.put_sums.Goals as goal
 
 pub returns : goal.returns
 unfolding summed
-returns c = c.put-2.ensures ∙ rw (c.put.ensures, c.add_up-s.ensures.0, c.add_up-s.ensures.1) (sym (sets_number _ _ 508 2 _ 510 refl))
+returns c =
+    c.put-2.ensures
+    ∙ rw (c.put.ensures, c.from.ensures, c.from-2.ensures, c.add_up-s.ensures.0, c.add_up-s.ensures.1) (sym (sets_number _ _ 508 2 _ 510 refl))

@@ -8,7 +8,8 @@ pub loop-i-init : goal.loop-i-init
 loop-i-init c = (omega arith, refl)
 
 pub loop-i-preserved : goal.loop-i-preserved
-loop-i-preserved c = storing_more c.args.block.now c.loop-i.block c.put.new.block c.args.seeds.now 44 2 64 c.loop-i.i (omega arith) (c.put.ensures ∙ rw c.wide.ensures) c.loop-i.invariant
+loop-i-preserved c =
+    storing_more c.args.block.now c.loop-i.block c.put.new.block c.args.seeds.now 44 2 64 c.loop-i.i (omega arith) (c.put.ensures ∙ rw c.from.ensures) c.loop-i.invariant
 
 pub returns : goal.returns
 returns c = storing_done c.args.block.now c.loop-i.block c.args.seeds.now 44 2 64 c.loop-i.i (omega arith) c.loop-i.invariant

@@ -1,10 +1,6 @@
 -- `put_seeds`. The loop's invariant: the numbers passed are stored.
-use Prim.Native.Nat.{◌-◌}
 use Rattle.log_format.proofs.Stores.{Storing}
 use Rattle.log_writer.proofs.start.put_seeds.Given as goal
 
 abbrev pub invariant-loop-i : goal.invariant-loop-i
 invariant-loop-i l = Storing l.initial.block l.block l.seeds 44 2 64 l.i
-
-abbrev pub decreases-loop-i : goal.decreases-loop-i
-decreases-loop-i l = 64 - l.i

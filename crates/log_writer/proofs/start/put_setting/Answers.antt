@@ -1,6 +1,7 @@
 -- `put_setting`. The loop's invariant: the numbers passed are stored.
-use mathlib.Core.Path.{refl}
+use mathlib.Core.Path.{refl, ◌∙◌}
 use native.Mathlib.Omega.{arith}
+use Rattle.std.proofs.lemmas.List.{get_or-take}
 use Rattle.log_format.proofs.Stores.{storing_more, storing_done}
 use Rattle.log_writer.proofs.start.put_setting.Goals as goal
 
@@ -8,7 +9,9 @@ pub loop-i-init : goal.loop-i-init
 loop-i-init c = (omega arith, refl)
 
 pub loop-i-preserved : goal.loop-i-preserved
-loop-i-preserved c = storing_more c.args.block.now c.loop-i.block c.put.new.block c.args.setting.now 8 4 9 c.loop-i.i (omega arith) c.put.ensures c.loop-i.invariant
+loop-i-preserved c =
+    storing_more c.args.block.now c.loop-i.block c.put.new.block c.args.setting.now 8 4 9 c.loop-i.i (omega arith)
+    (c.put.ensures ∙ rw (get_or-take 9 c.args.setting.now c.loop-i.i 0 (omega arith))) c.loop-i.invariant
 
 pub returns : goal.returns
 returns c = storing_done c.args.block.now c.loop-i.block c.args.setting.now 8 4 9 c.loop-i.i (omega arith) c.loop-i.invariant

@@ -9,5 +9,5 @@ pub returns : goal.returns
 unfolding put_record
 returns c =
     c.put-8.ensures
-    ∙ rw (c.put-7.ensures, c.put-6.ensures, c.put-5.ensures, c.put-4.ensures, c.put-3.ensures, c.put-2.ensures, c.put.ensures)
+    ∙ rw (c.put-7.ensures, c.put-6.ensures, c.put-5.ensures, c.put-4.ensures, c.put-3.ensures, c.from.ensures, c.put-2.ensures, c.put.ensures)
     (record_stores c.args.block.now (record_at c.args.k) c.args.e)

@@ -1,4 +1,4 @@
--- `ends::greatest_delay`: by what `smaller` ensures.
+-- `ends::greatest_delay`: by what `min` ensures.
 use native.Mathlib.Omega.{arith}
 use Rattle.plan_rules.specs.delays.Answer.{greatest_delay}
 use Rattle.plan.proofs.ends.Served.{places_small}
@@ -12,4 +12,4 @@ overflow_mul-m c =
 
 pub returns : goal.returns
 unfolding greatest_delay
-returns c = c.smaller.ensures
+returns c = c.min.ensures

@@ -2,54 +2,46 @@
 use mathlib.Core.Path.{◌≡◌, sym, ap, ◌∙◌}
 use Prim.Native.Nat.{ℕ, ◌≤◌}
 use native.Mathlib.Omega.{arith}
-use borrow.Author.Tests.{eq-eqb, ne_eqb}
 use Rattle.rules.specs.declared.Setting.{Setting}
 use Rattle.rules.specs.declared.Limits.{Limits}
-use Rattle.rules.specs.Answers.{refusal_number}
-use Rattle.rules.proofs.Accept.{number_none}
+use Rattle.refused.specs.Passed.{passed}
+use Rattle.refused.proofs.Laws.{passed_ok}
 use Rattle.plan_rules.specs.delays.Delays.{some_seeds, delay_refusal}
 use Rattle.plan_rules.specs.spans.Spans.{span_refusal, span_of}
 use Rattle.plan_rules.proofs.spans.Answer.{room_of, no_ticks, refusal_from}
 use borrow.Author.Rules.{rules}
+use Rattle.rules.specs.Policy.{limits02}
+use Rattle.plan.proofs.Passing.{passed_up}
 use Rattle.plan.proofs.spans.span.Goals as goal
 
 pub returns-then-x-eq0 : goal.returns-then-x-eq0
-returns-then-x-eq0 c =
-    let s : Setting = c.args.s in
-    sym (ap (span_of s) c.if-x-eq0.true ∙ no_ticks s)
+returns-then-x-eq0 c = sym (ap (span_of c.args.s) c.if-x-eq0.true ∙ no_ticks c.args.s)
 
-pub delay_refusal-refusal-requires : goal.delay_refusal-refusal-requires
-delay_refusal-refusal-requires c = rw c.wide_limits.ensures (omega arith, omega arith)
+pub delay_refusal-requires : goal.delay_refusal-requires
+delay_refusal-requires c = rw c.wide_limits.ensures (omega arith, omega arith)
 
-pub returns-then-refusal-ne0 : goal.returns-then-refusal-ne0
-unfolding span_of delay_refusal
-returns-then-refusal-ne0 c =
-    let s : Setting = c.args.s in
-    let x : ℕ = c.args.x in
-    let some : 1 ≤ x = let left = c.if-x-eq0.false in search rules in
-    let number : c.delay_refusal-refusal.result ≡ refusal_number (span_refusal s x) = c.delay_refusal-refusal.ensures
-    ∙ ap (λ (m : Limits). refusal_number (delay_refusal m s s.td)) c.wide_limits.ensures
-    ∙ sym (ap refusal_number (refusal_from s x some)) in
-    simp (← number, ne_eqb _ _ c.if-refusal-ne0.true)
+-- what is tested, where x is not 0
+tested : (s : Setting) (x : ℕ) (m : Limits) → 1 ≤ x → m ≡ limits02 → delay_refusal m s s.td ≡ span_refusal s x
+unfolding delay_refusal
+tested s x m h e = ap (λ (n : Limits). delay_refusal n s s.td) e ∙ sym (refusal_from s x h)
+
+pub returns-in_err-delay_refusal : goal.returns-in_err-delay_refusal
+unfolding span_of
+returns-in_err-delay_refusal c =
+    let some : 1 ≤ c.args.x = let left = c.if-x-eq0.false in search rules in
+    let e = ap passed (tested c.args.s c.args.x _ some c.wide_limits.ensures) in
+    passed_up _ _ _ _ (sym (c.delay_refusal.ensures ∙ e) ∙ c.in_err-delay_refusal.was) c.from_residual.ensures.1
 
 pub span_bound-requires : goal.span_bound-requires
 unfolding delay_refusal
 span_bound-requires c =
-    let s : Setting = c.args.s in
-    let x : ℕ = c.args.x in
-    let some : 1 ≤ x = let left = c.if-x-eq0.false in search rules in
-    let number : c.delay_refusal-refusal.result ≡ refusal_number (span_refusal s x) = c.delay_refusal-refusal.ensures
-    ∙ ap (λ (m : Limits). refusal_number (delay_refusal m s s.td)) c.wide_limits.ensures
-    ∙ sym (ap refusal_number (refusal_from s x some)) in
-    (room_of s some_seeds (sym (refusal_from s x some) ∙ number_none _ (sym number ∙ c.if-refusal-ne0.false)), some)
+    let some : 1 ≤ c.args.x = let left = c.if-x-eq0.false in search rules in
+    let none = passed_ok _ _ (sym c.delay_refusal.ensures ∙ c.in_ok-delay_refusal.was) in
+    (room_of c.args.s some_seeds (rw c.wide_limits.ensures at none), some)
 
 pub returns : goal.returns
-unfolding span_of delay_refusal
+unfolding span_of
 returns c =
-    let s : Setting = c.args.s in
-    let x : ℕ = c.args.x in
-    let some : 1 ≤ x = let left = c.if-x-eq0.false in search rules in
-    let number : c.delay_refusal-refusal.result ≡ refusal_number (span_refusal s x) = c.delay_refusal-refusal.ensures
-    ∙ ap (λ (m : Limits). refusal_number (delay_refusal m s s.td)) c.wide_limits.ensures
-    ∙ sym (ap refusal_number (refusal_from s x some)) in
-    simp (← number, eq-eqb _ _ c.if-refusal-ne0.false, c.span_bound.ensures)
+    let some : 1 ≤ c.args.x = let left = c.if-x-eq0.false in search rules in
+    let e = ap passed (tested c.args.s c.args.x _ some c.wide_limits.ensures) in
+    simp (← e, ← c.delay_refusal.ensures, c.in_ok-delay_refusal.was, c.span_bound.ensures)

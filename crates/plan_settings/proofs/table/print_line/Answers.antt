@@ -4,5 +4,5 @@ use Rattle.plan.proofs.Lasting.{least_accepted}
 use Rattle.plan_settings.proofs.table.print_line.Goals as goal
 
 pub costs-c-requires : goal.costs-c-requires
-costs-c-requires c =
-    (c.requires, least_accepted _ _ _ _ (sym c.delays-p.ensures ∙ c.in-Between.is))
+costs-c-requires g c =
+    least_accepted _ _ _ (sym c.delays.ensures ∙ c.in-Ok.is)

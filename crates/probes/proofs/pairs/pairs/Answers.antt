@@ -1,51 +1,47 @@
--- `pairs::pairs`: what is known of the first i pairs.
-use mathlib.Core.Path.{◌≡◌, sym, ◌∙◌}
-use mathlib.Core.Bool.{true, false, ◌&&◌}
+-- `pairs::pairs`: what is known of the pairs so far.
+use mathlib.Core.Path.{◌≡◌, sym, ap₂, ◌∙◌}
+use mathlib.Core.Bool.{false, ◌&&◌}
+use Prim.Native.Nat.{◌+◌, ◌-◌, ◌^◌, ◌<◌}
 use native.Mathlib.Omega.{arith}
-use lib.ListN.{get_or}
-use Rattle.probe_rules.specs.Probes.{on_time}
-use Rattle.probes.proofs.pairs.Pass.{passed_none, passed_more, passed_late, passed_all, both_on_time}
+use lib.ListN.{get_or, length}
+use Rattle.std.proofs.Common.{length-append}
+use Rattle.std.proofs.lemmas.Slice.Zip.{zip_turn, zip_end}
+use Rattle.probe_rules.specs.Probes.{lent, on_time}
+use Rattle.probes.specs.Pairs.{early}
+use Rattle.probes.proofs.pairs.Pass.{both_early, passed_none, passed_more}
+use Rattle.probes.proofs.pairs.All.{late_pair, passed_all, alike_by_rows}
 use Rattle.probes.proofs.pairs.pairs.Goals as goal
 
-pub loop-i-init : goal.loop-i-init
-loop-i-init c =
-    let a = c.args in
-    (omega arith, passed_none a.xticks.now a.xrows.now a.yticks.now a.yrows.now)
+pub loop-first-init : goal.loop-first-init
+loop-first-init c = passed_none _ _
 
 pub returns-then-not-on_time : goal.returns-then-not-on_time
 returns-then-not-on_time c =
-    let late : let a = c.args in
-    (on_time a.xticks.now c.loop-i.i && on_time a.yticks.now c.loop-i.i) ≡ false = sym c.on_time.ensures ∙ c.if-not-on_time.true in
-    let a = c.args in
-    passed_late a.xticks.now a.xrows.now a.yticks.now a.yrows.now c.loop-i.i a.n (omega arith) late
+    let ts = c.x.inside.ticks.now in
+    let us = c.y.inside.ticks.now in
+    let i = length c.loop-first.yielded in
+    let turn = zip_turn ts us c.loop-first.yielded c.into_iter-first-iterator.result c.loop-first.first-iterator c.next.new.self c.next.result (cc) (cc) c.loop-first.yielded_by _ c.in-Some.is c.next.ensures.steps in
+    let late : (on_time ts i && on_time us i) ≡ false = ap₂ (λ a b. early a && early b) (sym (turn.2 0)) (sym (turn.3 0)) ∙ sym c.on_time.ensures ∙ c.if-not-on_time.true in
+    rw (← c.x.view_is, ← c.y.view_is) (late_pair (lent ts c.x.inside.rows.now (length ts)) (lent us c.y.inside.rows.now (length us)) i turn.0 turn.1 late)
 
-pub overflow_add-difference : goal.overflow_add-difference
-overflow_add-difference c =
-    let on_time_lem : let a = c.args in
-    (on_time a.xticks.now c.loop-i.i && on_time a.yticks.now c.loop-i.i) ≡ true = sym c.on_time.ensures ∙ c.if-not-on_time.false in
-    let a = c.args in
-    let b = both_on_time (get_or a.xticks.now c.loop-i.i 0) (get_or a.yticks.now c.loop-i.i 0) on_time_lem in
-    record { fits = omega arith }
-
-pub overflow_sub-difference : goal.overflow_sub-difference
-overflow_sub-difference c =
-    let on_time_lem : let a = c.args in
-    (on_time a.xticks.now c.loop-i.i && on_time a.yticks.now c.loop-i.i) ≡ true = sym c.on_time.ensures ∙ c.if-not-on_time.false in
-    let a = c.args in
-    omega (arith, both_on_time (get_or a.xticks.now c.loop-i.i 0) (get_or a.yticks.now c.loop-i.i 0) on_time_lem)
-
-pub loop-i-preserved : goal.loop-i-preserved
-loop-i-preserved c =
-    let on_time_lem : let a = c.args in
-    (on_time a.xticks.now c.loop-i.i && on_time a.yticks.now c.loop-i.i) ≡ true = sym c.on_time.ensures ∙ c.if-not-on_time.false in
-    let a = c.args in (
-      omega arith,
-      passed_more a.xticks.now a.xrows.now a.yticks.now a.yrows.now c.loop-i.i c.loop-i.same c.still_same-same.result c.loop-i.greatest
-          c.larger-greatest.result c.loop-i.least c.smaller-least.result on_time_lem c.still_same-same.ensures c.larger-greatest.ensures
-          c.smaller-least.ensures c.loop-i.invariant.1,
-    )
+pub loop-first-preserved : goal.loop-first-preserved
+loop-first-preserved c =
+    let ts = c.x.inside.ticks.now in
+    let us = c.y.inside.ticks.now in
+    let i = length c.loop-first.yielded in
+    let turn = zip_turn ts us c.loop-first.yielded c.into_iter-first-iterator.result c.loop-first.first-iterator c.next.new.self c.next.result (cc) (cc) c.loop-first.yielded_by _ c.in-Some.is c.next.ensures.steps in
+    let both = both_early c.in-Some.first.now c.in-Some.second.now (sym c.on_time.ensures ∙ c.if-not-on_time.false) in
+    let first : get_or ts i 0 < 2 ^ 62 = omega (arith, both.0, turn.2 0) in
+    let second : get_or us i 0 < 2 ^ 62 = omega (arith, both.1, turn.3 0) in
+    let d = ap₂ (λ a b. b + 2 ^ 62 - a) (turn.2 0) (turn.3 0) in
+    rw (length-append, c.max-greatest.ensures, c.min-least.ensures) (passed_more ts us i c.loop-first.greatest c.loop-first.least _ first second d c.loop-first.invariant)
 
 pub returns : goal.returns
 returns c =
-    let a = c.args in
-    passed_all a.xticks.now a.xrows.now a.yticks.now a.yrows.now a.n c.loop-i.i c.loop-i.same c.loop-i.greatest c.loop-i.least (omega arith) c.loop-i.invariant.1
+    let ts = c.x.inside.ticks.now in
+    let us = c.y.inside.ticks.now in
+    let end = zip_end ts us c.loop-first.yielded c.into_iter-first-iterator.result c.loop-first.first-iterator c.next.new.self c.next.result (cc) (cc) c.loop-first.yielded_by c.in-None.is c.next.ensures.steps in
+    rw (← c.x.view_is, ← c.y.view_is) (
+    passed_all (lent ts c.x.inside.rows.now (length ts)) (lent us c.y.inside.rows.now (length us)) _ _ _ _ end
+    (alike_by_rows (lent ts c.x.inside.rows.now (length ts)) (lent us c.y.inside.rows.now (length us)) c.x.invariant c.y.invariant c.same_rows.ensures)
+    c.loop-first.invariant)

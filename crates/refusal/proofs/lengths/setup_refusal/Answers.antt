@@ -1,45 +1,31 @@
 -- `setup_refusal` gives the setting's refusal first, then 6.
-use Rattle.std.proofs.Common.{◌≡◌, sym, ap, ◌∙◌}
-use Rattle.rules.specs.Answers.{none, short_buffer, refusal_number, refuse}
+use Rattle.std.proofs.Common.{sym, ◌∙◌}
+use Rattle.refused.proofs.Laws.{passed_ok, passed_up, passed_second}
 use Rattle.rules.specs.Setting.{setting_refusal}
-use Rattle.rules.specs.Tested.{Accepted}
-use Rattle.rules.proofs.Accept.{accepted, number_none}
-use Rattle.refusal.specs.Lengths.{short_test, setup_test}
-use Rattle.refusal.proofs.lengths.Order.{or_else_first, or_else_second}
+use Rattle.rules.proofs.Accept.{accepted}
+use Rattle.refusal.specs.Lengths.{setup_test}
 use Rattle.refusal.proofs.lengths.setup_refusal.Goals as goal
 
-pub returns-then-code-ne0 : goal.returns-then-code-ne0
+pub returns-in_err-refusal : goal.returns-in_err-refusal
 unfolding setup_test
-returns-then-code-ne0 c =
-    let a = c.args in
-    c.refusal-code.ensures ∙ ap refusal_number (sym (or_else_first (setting_refusal a.m a.s a.seeds.now) _ (λ z. c.if-code-ne0.true (c.refusal-code.ensures ∙ z))))
+returns-in_err-refusal c = passed_up (setting_refusal c.args.m c.args.s c.args.seeds.now) _ _ _ _ c.refusal.ensures c.in_err-refusal.was c.from_residual.ensures.1
 
-pub history_length-requires : goal.history_length-requires
-history_length-requires c =
-    let ok : let a = c.args in Accepted a.m a.s a.seeds.now = let a = c.args in accepted a.m a.s a.seeds.now (number_none _ (sym c.refusal-code.ensures ∙ c.if-code-ne0.false)) in
-    let k = ok.ranges in (k.tfaw_low, k.tfaw_high, k.td_high)
+pub history_length-places-requires : goal.history_length-places-requires
+history_length-places-requires c =
+    let ok = (accepted c.args.m c.args.s c.args.seeds.now (passed_ok _ _ (sym c.refusal.ensures ∙ c.in_ok-refusal.was))).ranges in
+    (ok.tfaw_low, ok.tfaw_high, ok.td_high)
 
 pub too_short-requires : goal.too_short-requires
 too_short-requires c =
-    let ok : let a = c.args in Accepted a.m a.s a.seeds.now = let a = c.args in accepted a.m a.s a.seeds.now (number_none _ (sym c.refusal-code.ensures ∙ c.if-code-ne0.false)) in
-    let k = ok.ranges in (k.banks_high, k.threads_high, c.history_length.ensures)
+    let ok = (accepted c.args.m c.args.s c.args.seeds.now (passed_ok _ _ (sym c.refusal.ensures ∙ c.in_ok-refusal.was))).ranges in
+    (ok.banks_high, ok.threads_high, c.history_length-places.ensures)
 
 pub returns-then-too_short : goal.returns-then-too_short
 unfolding setup_test
 returns-then-too_short c =
-    let beyond : let a = c.args in
-    setup_test a.m a.s a.seeds.now a.counters a.ticks a.rows a.threads ≡ refuse c.too_short.result short_buffer none = let a = c.args in
-    rw c.too_short.ensures
-    (or_else_second (setting_refusal a.m a.s a.seeds.now) (refuse (short_test a.s a.counters a.ticks a.rows a.threads) short_buffer none)
-    (sym c.refusal-code.ensures ∙ c.if-code-ne0.false)) in
-    rw (beyond, c.if-too_short.true)
+    sym (passed_second (setting_refusal c.args.m c.args.s c.args.seeds.now) _ _ (sym c.refusal.ensures ∙ c.in_ok-refusal.was) ∙ rw (← c.too_short.ensures, c.if-too_short.true))
 
-pub returns-else-too_short : goal.returns-else-too_short
+pub returns : goal.returns
 unfolding setup_test
-returns-else-too_short c =
-    let beyond : let a = c.args in
-    setup_test a.m a.s a.seeds.now a.counters a.ticks a.rows a.threads ≡ refuse c.too_short.result short_buffer none = let a = c.args in
-    rw c.too_short.ensures
-    (or_else_second (setting_refusal a.m a.s a.seeds.now) (refuse (short_test a.s a.counters a.ticks a.rows a.threads) short_buffer none)
-    (sym c.refusal-code.ensures ∙ c.if-code-ne0.false)) in
-    rw (beyond, c.if-too_short.false)
+returns c =
+    sym (passed_second (setting_refusal c.args.m c.args.s c.args.seeds.now) _ _ (sym c.refusal.ensures ∙ c.in_ok-refusal.was) ∙ rw (← c.too_short.ensures, c.if-too_short.false))

@@ -6,7 +6,6 @@ pub returns : goal.returns
 unfolding fields_in_range
 returns c =
     simp (
-      c.and.ensures,
       c.is_known.ensures,
       c.and_within-threads.ensures,
       c.and_within-banks.ensures,
@@ -16,6 +15,5 @@ returns c =
       c.and_within-n.ensures,
       c.and_within-tfaw.ensures,
       c.and_within-trc.ensures,
-      c.and-w.ensures,
       c.within.ensures,
     )

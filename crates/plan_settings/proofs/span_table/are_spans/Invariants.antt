@@ -1,6 +1,0 @@
--- `are_spans`: each turn of the loop is one word nearer to the last.
-use Prim.Native.Nat.{◌-◌}
-use Rattle.plan_settings.proofs.span_table.are_spans.Given as goal
-
-abbrev pub decreases-loop-i : goal.decreases-loop-i
-decreases-loop-i l = l.count - l.i
