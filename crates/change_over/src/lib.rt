@@ -12,7 +12,6 @@ use refusal::{Lent, lent_refusal};
 use rules::Limits;
 use setting::house_seeds::difference;
 
-// Kept: what is used stands beside the counters, since a lent buffer may be longer and its rest stays as it is (C interface).
 // The first counters become the old ones, as numbers.
 fn take_over(old: &[u16], counters: &mut [u32], used: usize)
     requires { (used ≤ length old.now) × (used ≤ length counters.old) }
@@ -26,7 +25,6 @@ fn take_over(old: &[u16], counters: &mut [u32], used: usize)
 }
 
 // The change-over on the caller's memory; m are the limits of the old width. The shorter of the two counter buffers decides whether one is too short.
-// Kept: it returns the number of the refusal, as the C interface does (throttle_change_over).
 pub fn change_over(
     m: Limits,
     setting: &[u64; 10],

@@ -4,7 +4,7 @@ ghost use Rattle.rules.specs.Answers.{cause_number, answer_number, answer_wait, 
 
 use rules::{Answer, Cause};
 
-// Kept: functions, here and below. `From<Cause> for u64` would be a trait of the library for types of other crates, which the language refuses.
+// Kept: functions, here and below. A `From` for these types could stand in `rules` alone, which has types and no code (a rule of the project).
 fn cause_number(c: Cause) -> u64
     ensures { result ≡ cause_number c }
 {

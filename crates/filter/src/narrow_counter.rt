@@ -1,4 +1,4 @@
-// Counting Bloom filters of 16-bit counters.
+// A counter of 16 bits, and the limits of its width.
 ghost use Rattle.std.proofs.Common.{lit≤};
 ghost use Rattle.rules.specs.Policy.{limits01};
 

@@ -16,7 +16,6 @@ fn clear_run<C: Counter>(counters: &mut [C], start: usize, n: usize)
     }
 }
 
-// Kept: what is used stands beside the counters here and below, since a lent buffer may be longer and its rest stays as it is (C interface).
 // Clears the used counters, those of all banks.
 pub fn clear<C: Counter>(counters: &mut [C], used: usize)
     requires { used ≤ length counters.old }

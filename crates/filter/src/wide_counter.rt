@@ -1,4 +1,4 @@
-// Counting Bloom filters of 32-bit counters (document 02, a).
+// A counter of 32 bits, and the limits of its width (document 02, a).
 ghost use Rattle.std.proofs.Common.{lit≤};
 ghost use Rattle.rules.specs.Policy.{limits02};
 

@@ -21,7 +21,6 @@ pub fn record(ticks: &mut [u64], rows: &mut [u32], place: usize, t: u64, word: u
     rows[place] = word;
 }
 
-// Kept: h beside two slices, since lent buffers may be longer than the history and their rest stays, and C lends ticks and rows apart (C interface).
 // Empties the h places.
 pub fn clear(ticks: &mut [u64], rows: &mut [u32], h: usize)
     requires { (h ≤ length ticks.old) × (h ≤ length rows.old) }

@@ -19,7 +19,6 @@ pub fn is_not_after(stored: u64, last: u64) -> bool
 // The quick test of `never_falls` accepts every block of cells that do not fall and lie less than 2^58 ticks apart, however large
 // they are. The exact scan runs only in a block with a fall or with a gap of 2^58 or more. In a call that is answered the ticks are
 // below 2^62, so there are at most 16 such gaps and at most 16 blocks are scanned, whatever h is.
-// Kept: h beside the slice, as in `cells::clear`.
 pub fn steady(ticks: &[u64], h: usize, next: usize, last: u64) -> bool
     requires { (next < h) × (h ≤ length ticks.now) }
     ensures { result ≡ (every h (λ p. not_after last (slice_index ticks.now p)) && never_rises h next ticks.now) }

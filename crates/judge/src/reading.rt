@@ -5,7 +5,7 @@ use tally::Progress;
 
 // A log that is read so far: the progress, the setting and the seeds of block 0, whether these are the house seeds (`table`), and the head of the
 // model. The caller lends the buffers.
-// Kept: `table` beside the seeds, as it says something of them and not whether they are there.
+// Kept: no plainer. `table` says something of the seeds; an Option of them would say that there are none.
 #[derive(Clone, Copy)]
 pub struct Reading {
     pub progress: Progress,

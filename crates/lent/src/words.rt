@@ -8,7 +8,6 @@ use head::Head;
 use rules::Answer;
 
 // The head that the 22 words of the caller hold.
-// Kept: no From between the head and its words, since neither type is of this crate (orphan rule).
 pub fn load_head(words: &[u64; 22]) -> Head
     ensures { result ≡ head_of words.now }
 {

@@ -1,6 +1,4 @@
 // Little-endian numbers, read from a block.
-// Kept: a function for each size. The library has `from_le_bytes` on each type of number and in no trait, so one generic function would need a trait of our
-// own with an impl for each, which is no plainer.
 ghost use Rattle.std.specs.Prelude.{◌≡◌, ◌+◌, ◌≤◌, ◌<◌, get_or};
 ghost use Rattle.log_format.specs.Bytes.{little};
 

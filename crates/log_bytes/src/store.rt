@@ -3,7 +3,6 @@ ghost use Rattle.std.specs.Prelude.{◌≡◌, ◌+◌, ◌≤◌};
 ghost use Rattle.std.proofs.lemmas.List.Edits.{sets};
 ghost use Rattle.log_format.specs.Bytes.{bytes_of};
 
-// Kept: place and length of a part, as in `tests::are_zero`.
 // Stores the n lowest bytes of a number from a place on.
 pub fn put(block: &mut [u8; 512], at: usize, n: usize, x: u64)
     requires { at + n ≤ 512 }

@@ -2,7 +2,6 @@
 ghost use Rattle.std.specs.Prelude.{◌≡◌, ◌+◌, ◌≤◌};
 ghost use Rattle.log_format.specs.Bytes.{zeros};
 
-// Kept: place and length of a part, since the block has a fixed length and the parts that are asked for are given by numbers of the format.
 // The n bytes from a place on are zero: no bit of them is set.
 pub fn are_zero(block: &[u8; 512], from: usize, n: usize) -> bool
     requires { from + n ≤ 512 }

@@ -15,7 +15,6 @@ fn is_record(block: &[u8; 512], k: usize) -> bool
     (byte(block, at + 20) <= 1) & (byte(block, at + 21) <= 4) & are_zero(block, at + 22, 2)
 }
 
-// Kept: n, since the records are bytes of a block and no slice.
 // The first n records.
 pub fn are_records(block: &[u8; 512], n: usize) -> bool
     requires { n ≤ 20 }

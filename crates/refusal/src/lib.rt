@@ -1,5 +1,5 @@
-// Refusals 1 to 10 and 16 of the calls, in their order, for any limits of the setting. The tests stand in `lengths`, in `memory` with `head_ticks`, and in
-// `place`. No function here knows the width of a filter counter.
+// Refusals 1 to 10 and 16 of the calls, in their order, for any limits of the setting. What they look at stands in `lent`, the tests in `lengths`, in
+// `memory` with `head_ticks`, and in `place`. No function here knows the width of a filter counter.
 #![tactic(auto)]
 
 mod head_ticks;

@@ -7,7 +7,6 @@ ghost use Rattle.refusal.specs.Memory.{memory_test};
 use crate::head_ticks::head_past;
 use rules::Setting;
 
-// Kept: places beside the ticks, since the lent buffer may be longer than the history (C interface).
 // Refusal 7 does not apply.
 pub fn memory_ok(s: Setting, head: &[u64; 22], ticks: &[u64], places: usize) -> bool
     requires { (s.banks ≤ 16) × (places ≡ history_length s) × (places ≤ length ticks.now) }

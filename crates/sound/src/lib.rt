@@ -26,6 +26,8 @@ use refusal::{flying_refusal, place_refusal};
 use refused::Refusal;
 use rules::Setting;
 
+// A request done: one less in flight.
+// Kept: four slices and no `Buffers`, which would ask for more than reading of ticks and rows (what may not change: the types that this function takes).
 pub fn done(
     s: Setting,
     seeds: &[u16],

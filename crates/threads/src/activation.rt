@@ -7,7 +7,6 @@ ghost use Rattle.rules.specs.Decision.{activated_threads};
 
 use crate::counters::cell;
 
-// Kept: the library has no such step; the lesser of one more and the limit would lower a counter that is above the limit.
 // A counter with 1 more, if it is below the limit.
 fn raise(c: u32, limit: u32) -> u32
     ensures { result ≡ raised limit c }

@@ -15,7 +15,6 @@ fn clear_kind(threads: &mut [u32], kind: usize, groups: usize)
     }
 }
 
-// Kept: what is used stands beside the counters, since a lent buffer may be longer and its rest stays as it is (C interface).
 // The clock goes from one epoch to another: index counters are cleared as the filters are, and in flight stays.
 pub fn turn(threads: &mut [u32], used: usize, from: u64, to: u64)
     requires { (used ≤ length threads.old) × (used % 3 ≡ 0) × (from < 2 ^ 63) }

@@ -1,8 +1,7 @@
 // The throttle for C, which the crate `throttle_c` exports, proved against the rules: set-up, request, done and index with 16-bit filter counters, the same
 // with 32-bit ones, and the change-over from one to the other. Every call returns 0 when it answered, and else the number of its refusal; a refused call
 // changes nothing that was lent. Of buffers that overlap nothing is promised.
-// Kept: a function for each width, and the numbers of the refusals, since C calls each function by its name (C interface). Both widths call the same
-// generic functions of `calls`.
+// Both widths call the same generic functions of `calls`.
 #![tactic(auto)]
 
 ghost use Rattle.std.specs.Prelude.{◌≡◌, []};
