@@ -1,6 +1,6 @@
 // Standard input, a block at a time. What a read gave decides whether more is to be read, the block is whole, the input is at its end, or it is
 // cut; a read that fails is never taken for the end.
-ghost use Rattle.std.specs.Prelude.{◌<◌, ◌≡◌, List, ℕ, Option, length};
+ghost use Rattle.std.specs.Prelude.{◌<◌, ◌≡◌, ◌≤◌, List, ℕ, Option, IfSome, length};
 ghost use Rattle.std.specs.declared.ops.ControlFlow.TheVariants.{Break};
 ghost use Rattle.check_log.specs.Reads.{nothing_left, after_read, after_reads};
 
@@ -50,6 +50,14 @@ pub fn after_read(size: usize, done: usize, got: Option<usize>) -> ControlFlow<F
     }
 }
 
+// One read into the rest of a block: None where it failed, else how many bytes it gave, 0 where nothing is left to read.
+// It rules out: a read that failed taken for one that gave more bytes than there is room for.
+fn read_rest(input: &mut Stdin, rest: &mut [u8]) -> Option<usize>
+    ensures { IfSome result (λ n. n ≤ length rest.old) }
+{
+    io::Read::read(input, rest).ok()
+}
+
 // Fills the block, by as many reads as it takes. What a read puts into the block is outside every contract.
 pub fn fill(input: &mut Stdin, block: &mut [u8]) -> Filled
     requires { 0 < length block.old }
@@ -57,7 +65,7 @@ pub fn fill(input: &mut Stdin, block: &mut [u8]) -> Filled
 {
     let mut done: usize = 0;
     loop {
-        let got = io::Read::read(input, &mut block[done..]).ok();
+        let got = read_rest(input, &mut block[done..]);
         match after_read(block.len(), done, got) {
             ControlFlow::Continue(bytes) => done = bytes,
             ControlFlow::Break(filled) => return filled,

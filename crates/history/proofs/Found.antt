@@ -20,7 +20,15 @@ module _ (h td p : ℕ) (ticks rows : List ℕ) (word t : ℕ) (ph : p < h) wher
       go (inl f) = inl f.0
       go (inr f) = inr (rw f.1 (back_lt h p ph f.0 (omega (arith, f.3))), rw f.1 f.4)
 
-  -- a place that was found holds a stored tick from 1 to t + 1, as `delay_end` asks for it
+  -- a place that was found holds a stored tick from 1 to t + 1
+  pub found_stored : place < h → (1 ≤ get_or ticks place 0) × (get_or ticks place 0 ≤ t + 1)
+  found_stored l = go told
+    where
+      go : Told → (1 ≤ get_or ticks place 0) × (get_or ticks place 0 ≤ t + 1)
+      go (inl e) = absurd (omega arith)
+      go (inr m) = let s = match_parts td word t (get_or ticks place 0) (get_or rows place 0) m.1 in (omega arith, omega arith)
+
+  -- the same of a result, as `delay_end` asks for it
   pub found_fits : h ≤ length ticks → t < 2 ^ 62 → (r : Option ℕ) → r ≡ place_found h place
       → IfSome r (λ q. (q < length ticks) × (1 ≤ get_or ticks q 0) × (get_or ticks q 0 ≤ 2 ^ 62 + 1))
   unfolding place_found
@@ -29,8 +37,8 @@ module _ (h td p : ℕ) (ticks rows : List ℕ) (word t : ℕ) (ph : p < h) wher
       go : Told → IfSome r (λ q. (q < length ticks) × (1 ≤ get_or ticks q 0) × (get_or ticks q 0 ≤ 2 ^ 62 + 1))
       go (inl n) = rw (e, eq-eqb place h n) tt
       go (inr m) =
-          let s = match_parts td word t (get_or ticks place 0) (get_or rows place 0) m.1 in
-          rw (e, ne_eqb place h (omega (arith, m.0))) (omega arith, omega arith, omega arith)
+          let s = found_stored m.0 in
+          rw (e, ne_eqb place h (omega (arith, m.0))) (omega arith, s.0, omega (arith, s.1))
 
 -- the end of the delay by the rules' place
 pub end_found : (ticks : List ℕ) (td h place : ℕ) → end_of ticks td (place_found h place) ≡ cond (eqb place h) 0 (get_or ticks place 0 - 1 + td)

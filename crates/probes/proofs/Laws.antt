@@ -43,6 +43,10 @@ pub by_closed : (j g l : ℕ) (same : Bool) → not same ≡ false → decided (
 by_closed j g l true e = refl
 by_closed j g l false e = cc
 
+-- lists that are not
+pub not_alike : (j g l : ℕ) {same : Bool} → same ≡ false → None ≡ decided (cond same (closed j g l) 2001)
+not_alike j g l e = sym (ap (λ q. decided (cond q (closed j g l) 2001)) e)
+
 -- ---- the number of an offset
 
 decided_most : (r n : ℕ) → Some n ≡ decided r → n ≤ 2000

@@ -12,18 +12,18 @@ loop-bytes-init c = (omega arith, refl, ([], refl))
 
 pub after_read-requires : goal.after_read-requires
 after_read-requires c =
-    omega (arith, c.read.auto, c.loop-bytes.invariant)
+    omega (arith, c.read_rest-got.auto, c.loop-bytes.invariant)
 
 pub loop-bytes-smaller : goal.loop-bytes-smaller
 loop-bytes-smaller c =
     let g = grown _ _ _ _ _ c.in-Continue.ensures refl in
-    omega (arith, c.read.auto, c.loop-bytes.invariant)
+    omega (arith, c.read_rest-got.auto, c.loop-bytes.invariant)
 
 pub loop-bytes-preserved : goal.loop-bytes-preserved
 loop-bytes-preserved c =
     let g = grown _ _ _ _ _ c.in-Continue.ensures refl in
-    (omega (arith, c.read.auto, c.loop-bytes.invariant), omega (arith, c.read.auto, c.loop-bytes.invariant), reads_more _ _ _ _ _ _ c.in-Continue.ensures refl (omega (arith, c.read.auto, c.loop-bytes.invariant)) c.loop-bytes.invariant.2)
+    (omega (arith, c.read_rest-got.auto, c.loop-bytes.invariant), omega (arith, c.read_rest-got.auto, c.loop-bytes.invariant), reads_more _ _ _ _ _ _ c.in-Continue.ensures refl (omega (arith, c.read_rest-got.auto, c.loop-bytes.invariant)) c.loop-bytes.invariant.2)
 
 pub returns-in-Break : goal.returns-in-Break
 returns-in-Break c =
-    reads_more _ _ _ _ _ _ c.in-Break.ensures refl (omega (arith, c.read.auto, c.loop-bytes.invariant)) c.loop-bytes.invariant.2
+    reads_more _ _ _ _ _ _ c.in-Break.ensures refl (omega (arith, c.read_rest-got.auto, c.loop-bytes.invariant)) c.loop-bytes.invariant.2
