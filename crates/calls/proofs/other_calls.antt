@@ -1,1 +1,2 @@
 pub mod Back
+mod Told

@@ -23,7 +23,7 @@ pub fn setup<C: Width>(
 ) -> Result<(), Refusal>
     ensures { left (code_of result) [] head.new (map C.value counters.new) ticks.new rows.new threads.new ≡ leaves (setup C.limits (setting_of setting.now) seeds.now (found head.old (map C.value counters.old) ticks.old rows.old threads.old)) [] head.old }
 {
-    let used = lent::setup::setup(
+    let told = lent::setup::setup(
         C::width_limits(),
         setting,
         seeds,
@@ -32,9 +32,10 @@ pub fn setup<C: Width>(
         ticks,
         rows,
         threads,
-    )?;
+    );
+    let used = told.unwrap_or(0);
     filter::turn::clear(counters, used);
-    Ok(())
+    told.and(Ok(()))
 }
 
 // A request done: one less in flight for the thread in the bank.
