@@ -27,7 +27,7 @@ fn block_never_falls(ticks: &[u64], i: usize, m: usize) -> bool
     if differences(ticks, i, m) < 288230376151711744 {
         return true;
     }
-    ticks[i..i + m + 1].is_sorted()
+    ticks[i..i + m + 1].is_sorted_by(|older, newer| older <= newer)
 }
 
 // The same for a run of any length, by blocks. With the constant 64 the compiler can unroll the loop of a whole block.

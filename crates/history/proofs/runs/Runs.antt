@@ -1,5 +1,5 @@
 -- The laws of a run that does not fall.
-use Rattle.std.proofs.Common.{◌≡◌, ℕ, zero, suc, ◌+◌, ◌-◌, ◌<◌, ◌≤◌, Bool, true, false, MatchBool, T, leb, List, length, get_or, take, drop, nat_cmp, is_le, sym, ◌∙◌, add-one, arith, le→leb, leb→le}
+use Rattle.std.proofs.Common.{◌≡◌, ℕ, zero, suc, ◌+◌, ◌-◌, ◌<◌, ◌≤◌, Bool, true, false, MatchBool, T, leb, List, length, get_or, take, drop, nat_cmp, is_le, sym, ◌∙◌, add-one, arith, rules, le→leb, leb→le}
 use Rattle.std.specs.List.{IsAllAdjacentAnswer}
 use Rattle.std.specs.List.Sorted.{IsNonDecreasing}
 use Rattle.std.proofs.lemmas.List.{get_or-take, get_or-drop, length-drop, length-take-le}
@@ -85,3 +85,12 @@ run_sorted ticks i m r h e = go r (non_decreasing_from_is_sorted (run_of ticks i
     go false s =
         let f : get_or ticks (i + s.0 + 1) 0 < get_or ticks (i + s.0) 0 = rw (run_cell ticks i m s.0 (omega (arith, long, s.1)), run_cell ticks i m (s.0 + 1) (omega (arith, long, s.1)), next s.0) at (s.2 0) in
         rejected (never_falls ticks i m) (λ t. omega (arith, f, run_at ticks i m s.0 t (omega (arith, long, s.1))))
+
+cmp_le : (x y : ℕ) → is_le (nat_cmp x y) ≡ leb x y
+cmp_le x y = search rules
+
+-- the same, where each cell is tested against the next by a closure that answers `leb`
+pub run_sorted_by : (ticks : List ℕ) (i m : ℕ) (r : Bool) → i + m < length ticks
+    → IsAllAdjacentAnswer (λ x y b. b ≡ leb x y) (run_of ticks i m) r → r ≡ never_falls ticks i m
+run_sorted_by ticks i m true h e = run_sorted ticks i m true h (λ k d l. cmp_le _ _ ∙ sym (e k d l))
+run_sorted_by ticks i m false h e = run_sorted ticks i m false h (e.0, e.1, λ d. cmp_le _ _ ∙ sym (e.2 d))
