@@ -12,6 +12,7 @@ use tally::{Progress, Report};
 
 // Block 0: set-up with its setting and seeds, which also finds whether they are the house seeds; no later block tests that again. Ok: the log goes
 // on from here. Err: it is over with this report.
+#[tactic(auto, using(crate::proofs::reading::Start::start_refused))]
 pub fn judge_start(
     x: Reading,
     m: &mut Buffers<'_, u16>,

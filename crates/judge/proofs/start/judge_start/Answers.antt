@@ -3,21 +3,8 @@ use Rattle.rules.specs.State.{State}
 use Rattle.sound.specs.Held.{held}
 use Rattle.log_format.specs.Verdict.{Running}
 use Rattle.judge.specs.Blocks.{read_in}
-use Rattle.judge.proofs.reading.Start.{start_refused, start_on}
+use Rattle.judge.proofs.reading.Start.{start_on}
 use Rattle.judge.proofs.start.judge_start.Goals as goal
-
-pub returns-in-Err : goal.returns-in-Err
-returns-in-Err c =
-    let a = c.args in
-    let n = c.setup.new in
-    let before : Running = read_in a.x a.m.now in
-    let after : State = held n.h n.m in
-    record {
-      same = c.in-Err.ensures.same;
-      judged = rw (c.from-in-Err.ensures, c.from.ensures)
-          (start_refused before a.block.now c.setting-setting.result c.seeds-seeds.result after c.setting-setting.ensures c.seeds-seeds.ensures c.in-Err.refusal c.in-Err.ensures.begun);
-      carried = tt;
-    }
 
 pub returns-in-Ok : goal.returns-in-Ok
 returns-in-Ok c =
