@@ -15,6 +15,7 @@ use sound::Named;
 use sound::buffers::Buffers;
 
 // m are the limits of the width.
+#[tactic(auto, using(lent::proofs::request::Settled::request_told))]
 pub fn request<C: Counter>(
     m: Limits,
     setting: &[u64; 10],
@@ -31,7 +32,7 @@ pub fn request<C: Counter>(
     requires { m ≡ C.limits }
     ensures { left (code_of result) out.new head.new (map C.value counters.new) ticks.new rows.new threads.new ≡ leaves (step (in_force C.limits) (setting_of setting.now) seeds.now (found head.old (map C.value counters.old) ticks.old rows.old threads.old) (request at.tick at.bank at.thread row)) out.old head.old }
 {
-    let table = tested(
+    let checked = tested(
         m,
         setting,
         seeds,
@@ -41,7 +42,8 @@ pub fn request<C: Counter>(
         rows.len(),
         threads.len(),
         at,
-    )?;
+    );
+    let table = checked?;
     let s = setting::load(setting);
     let h = load_head(&*head);
     let stored = bank_word(&*head, at.bank);

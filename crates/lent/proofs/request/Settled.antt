@@ -2,10 +2,11 @@
 use Prim.Native.Nat.{ℕ, ◌+◌, ◌<◌}
 use mathlib.Core.Path.{◌≡◌, refl, sym, ap, ap₂, ◌∙◌}
 use mathlib.Core.Logic.{◌≢◌}
-use mathlib.Core.List.{List, [], ◌∷◌}
+use mathlib.Core.List.{List, [], ◌∷◌, map}
 use mathlib.Core.Bool.{Bool}
 use native.Mathlib.Omega.{arith}
 use lib.ListN.{length, get_or}
+use Rattle.std.proofs.lemmas.List.{length-map}
 use Rattle.std.specs.Prelude.{Result, Ok, Err, IfOk, IsErrAnd}
 use Rattle.head.specs.declared.Head.{Head}
 use Rattle.head.specs.Head.{moved_head}
@@ -230,3 +231,14 @@ module _ {m : Limits} (q : Asks m) where
           pub request_left : left 0 (answer_number a ∷ answer_wait a ∷ answer_left a ∷ []) (head_words after.head) after.counters after.ticks after.rows after.threads ≡ left_by
           request_left =
               left_request m s q.seeds q.words q.counters q.ticks q.rows q.threads q.tick q.bank q.thread q.row q.out free a after answers
+
+-- A request that the tests refuse, in the words of the contract of `tested`, with counters of any width: the number is given and all is left as it was.
+pub request_told : {A : Type 0} (value : A → ℕ) (m l : Limits) (setting seeds words ticks rows threads out : List ℕ) (counters : List A)
+    (tick bank thread row : ℕ) (t : Result Bool Refusal) (r : Refusal) → l ≡ m
+    → code_of t ≡ refusal_number (call_test l (setting_of setting) seeds (head_of words) (length counters) ticks (length rows) (length threads) tick bank thread)
+    → t ≡ Err r
+    → left (number_of r) out words (map value counters) ticks rows threads
+    ≡ leaves (step (in_force m) (setting_of setting) seeds (found words (map value counters) ticks rows threads) (request tick bank thread row)) out words
+request_told value m l setting seeds words ticks rows threads out counters tick bank thread row t r el e z =
+    let q = asks m setting seeds words (map value counters) ticks rows threads tick bank thread row out in
+    request_refused q l t el (rw (sym (length-map counters value)) at e) (Err r) r z refl
