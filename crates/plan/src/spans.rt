@@ -35,6 +35,8 @@ pub fn span(s: rules::Setting, x: u64) -> Result<u64, Refusal>
     if x == 0 {
         return Err(Refusal::OutOfRange);
     }
-    crate::interval::delay_refusal(setting::wide_limits(), s, s.td)?;
-    Ok(span_bound(s, x))
+    match crate::interval::delay_refusal(setting::wide_limits(), s, s.td) {
+        Ok(()) => Ok(span_bound(s, x)),
+        Err(refusal) => Err(refusal),
+    }
 }

@@ -5,13 +5,16 @@ use native.Mathlib.Omega.{arith}
 use Rattle.rules.specs.declared.Setting.{Setting}
 use Rattle.rules.specs.declared.Limits.{Limits}
 use Rattle.refused.specs.Passed.{passed}
+use Rattle.refused.specs.declared.Refusal.{Refusal}
+use Rattle.std.specs.Prelude.{Result, Ok}
+use Rattle.std.specs.Result.{result_and}
+use Rattle.rules.specs.Claims.{span_bound}
 use Rattle.refused.proofs.Laws.{passed_ok}
 use Rattle.plan_rules.specs.delays.Delays.{some_seeds, delay_refusal}
 use Rattle.plan_rules.specs.spans.Spans.{span_refusal, span_of}
 use Rattle.plan_rules.proofs.spans.Answer.{room_of, no_ticks, refusal_from}
 use borrow.Author.Rules.{rules}
 use Rattle.rules.specs.Policy.{limits02}
-use Rattle.plan.proofs.Passing.{passed_up}
 use Rattle.plan.proofs.spans.span.Goals as goal
 
 pub returns-then-x-eq0 : goal.returns-then-x-eq0
@@ -25,23 +28,23 @@ tested : (s : Setting) (x : ℕ) (m : Limits) → 1 ≤ x → m ≡ limits02 →
 unfolding delay_refusal
 tested s x m h e = ap (λ (n : Limits). delay_refusal n s s.td) e ∙ sym (refusal_from s x h)
 
-pub returns-in_err-delay_refusal : goal.returns-in_err-delay_refusal
+pub returns-in-Err : goal.returns-in-Err
 unfolding span_of
-returns-in_err-delay_refusal c =
+returns-in-Err c =
     let some : 1 ≤ c.args.x = let left = c.if-x-eq0.false in search rules in
     let e = ap passed (tested c.args.s c.args.x _ some c.wide_limits.ensures) in
-    passed_up _ _ _ _ (sym (c.delay_refusal.ensures ∙ e) ∙ c.in_err-delay_refusal.was) c.from_residual.ensures.1
+    ap (λ (p : Result (Unit {0}) Refusal). result_and p (Ok (span_bound c.args.s c.args.x))) (c.in-Err.ensures ∙ e)
 
 pub span_bound-requires : goal.span_bound-requires
 unfolding delay_refusal
 span_bound-requires c =
     let some : 1 ≤ c.args.x = let left = c.if-x-eq0.false in search rules in
-    let none = passed_ok _ _ (sym c.delay_refusal.ensures ∙ c.in_ok-delay_refusal.was) in
+    let none = passed_ok _ _ (sym c.in-Ok.ensures) in
     (room_of c.args.s some_seeds (rw c.wide_limits.ensures at none), some)
 
-pub returns : goal.returns
+pub returns-in-Ok : goal.returns-in-Ok
 unfolding span_of
-returns c =
+returns-in-Ok c =
     let some : 1 ≤ c.args.x = let left = c.if-x-eq0.false in search rules in
     let e = ap passed (tested c.args.s c.args.x _ some c.wide_limits.ensures) in
-    simp (← e, ← c.delay_refusal.ensures, c.in_ok-delay_refusal.was, c.span_bound.ensures)
+    rw c.span_bound.ensures (ap (λ (p : Result (Unit {0}) Refusal). result_and p (Ok (span_bound c.args.s c.args.x))) (c.in-Ok.ensures ∙ e))
