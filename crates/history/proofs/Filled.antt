@@ -1,6 +1,7 @@
 -- The first cells of a list filled with 0: the same as cleared.
-use Rattle.std.proofs.Common.{◌≡◌, ℕ, ◌+◌, ◌-◌, ◌<◌, ◌≤◌, List, ◌++◌, length, get_or, replicate, take, drop, cond, ap, ◌∙◌, arith}
+use Rattle.std.proofs.Common.{◌≡◌, ℕ, zero, suc, ◌+◌, ◌-◌, ◌<◌, ◌≤◌, List, ◌++◌, length, get_or, replicate, take, drop, cond, ap, ◌∙◌, arith}
 use native.Mathlib.Decide.{dec_lt}
+use borrow.Rule.Slice.PartMut.{mid_of, put_mid}
 use lib.Dec.{ltb}
 use borrow.Author.Tests.{lt-ltb, le-ltb}
 use Rattle.std.proofs.lemmas.List.{get_or-replicate, get_or-drop, length-drop, length-append, length-replicate, length-take-le}
@@ -33,3 +34,14 @@ pub filled_first : (n : ℕ) (old new : List ℕ) → n ≤ length old → new �
 filled_first n old new h e =
     let long : length (take n old) ≡ n = length-take-le n old h in
     rw (e, long) (zeros_first n old h)
+
+-- the same of the cells from start on, where that is 0
+pub filled_from : (start n : ℕ) (old new : List ℕ) → start ≡ 0 → n ≤ length old → new ≡ replicate (length (mid_of start (n - start) old)) 0
+    → put_mid start (n - start) old new ≡ clear_cells (first n) old
+filled_from start n old new e = go start e
+  where
+    go : (start : ℕ) → start ≡ 0 → n ≤ length old → new ≡ replicate (length (mid_of start (n - start) old)) 0 → put_mid start (n - start) old new ≡ clear_cells (first n) old
+    go zero e h is =
+        let z : n - 0 ≡ n = omega arith in
+        rw z (filled_first n old new h (rw z at is))
+    go (suc k) e h is = absurd (omega (arith, e))

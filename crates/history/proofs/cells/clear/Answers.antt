@@ -1,10 +1,10 @@
 -- `clear` meets its contract: the first h cells of both buffers are filled with 0.
-use Rattle.history.proofs.Filled.{filled_first}
+use Rattle.std.proofs.Common.{arith}
+use Rattle.history.proofs.Filled.{filled_first, filled_from}
 use Rattle.history.proofs.cells.clear.Goals as goal
 
 pub returns : goal.returns
 returns c =
-    let a = c.args in (
-      filled_first a.h a.ticks.now c.fill.new.self c.requires.0 (c.fill.ensures.after (λ y e. e)),
-      filled_first a.h a.rows.now c.fill-2.new.self c.requires.1 (c.fill-2.ensures.after (λ y e. e)),
-    )
+    let ticks = c.fill.ensures.after (λ y e. e) in
+    let rows = c.fill-2.ensures.after (λ y e. e) in
+    (grind (arith, filled_first, filled_from), grind (arith, filled_first, filled_from))
