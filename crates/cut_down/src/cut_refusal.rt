@@ -14,6 +14,7 @@ use setting::house_seeds::difference;
 
 // The number of records, or the first refusal, for every list of bytes.
 // It rules out: the setting after the later blocks, the limits of the other width, and a log of no blocks that passes.
+#[tactic(auto, using(crate::proofs::cut_refusal::Parts::setting_told))]
 pub fn log_refusal(bytes: &[u8]) -> Result<u64, CutRefusal>
     ensures coded { code result ≡ log_refusal_number (log_refusal limits01 bytes.now) }
     ensures counted { IfOk result (λ records. records ≡ length (records_of bytes.now)) }
