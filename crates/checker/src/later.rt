@@ -13,6 +13,7 @@ use sound::buffers::Buffers;
 use tally::{Progress, Report};
 
 // A later block: its records, none of which is counted yet.
+#[tactic(auto, unfolding(log_format::specs::Verdict::judge_later))]
 pub fn judge_later(
     x: Reading,
     m: &mut Buffers<'_, u16>,
