@@ -15,6 +15,7 @@ use tally::{Report, refused};
 
 // Any block of a log: its setting or records are judged only where the whole block is sound. Ok: the log goes on from here. Err: it is over with this
 // report.
+#[tactic(auto, using(crate::proofs::Blocks::block_steps))]
 pub fn judge_block(
     x: Reading,
     m: &mut Buffers<'_, u16>,
