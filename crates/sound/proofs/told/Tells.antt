@@ -2,22 +2,23 @@
 use Prim.Native.Nat.{ℕ}
 use mathlib.Core.Path.{◌≡◌, refl, sym, ap, ◌∙◌}
 use mathlib.Core.List.{List}
-use mathlib.Core.Bool.{Bool, true≢false}
-use Rattle.std.specs.Prelude.{Result, Ok, Err, IsErrAnd}
+use mathlib.Core.Bool.{Bool, true, false, true≢false}
+use Rattle.std.specs.Prelude.{Result, Ok, Err, IsErr, IsErrAnd, slice_index, ◌==◌}
 use Rattle.head.specs.declared.Head.{Head}
 use Rattle.head.specs.Head.{moved_head}
 use Rattle.rules.specs.declared.Setting.{Setting}
 use Rattle.rules.specs.declared.Limits.{Limits}
 use Rattle.rules.specs.declared.Answer.{Answer}
 use Rattle.rules.specs.Answers as rules
-use Rattle.rules.specs.Answers.{none, short_buffer, refusal_number, refuse}
+use Rattle.rules.specs.Answers.{none, none_in_flight, short_buffer, refusal_number, refuse}
 use Rattle.rules.specs.Setting.{setting_refusal}
-use Rattle.rules.specs.State.{State, counters_used, threads_used, state, too_short, fresh}
+use Rattle.rules.specs.State.{State, counters_used, threads_used, thread_cell, state, too_short, fresh}
 use Rattle.rules.specs.Clock.{epoch, turned_counters, turned_threads, turned}
 use Rattle.rules.specs.History.{memory_ok}
-use Rattle.rules.specs.Policy.{limits01}
+use Rattle.rules.specs.Policy.{limits01, narrow}
 use Rattle.rules.specs.Tested.{Taken, Sound}
-use Rattle.rules.specs.Calls.{answered, finished, Outcome, outcome, setup, setup_refusal, call_refusal, unless_refused, one_less, reported}
+use Rattle.rules.specs.Calls.{answered, finished, return_code, Outcome, outcome, setup, setup_refusal, call_refusal, done_refusal, unless_refused, one_less}
+use Rattle.rules.specs.Calls.{reported, done, step}
 use Rattle.rules.proofs.Tests.{is_true}
 use Rattle.rules.proofs.Accept.{or_else_none, set_up_lem}
 use Rattle.rules.proofs.Memory.{memory_ok_lem, taken_memory, turned_long, reported_long}
@@ -27,7 +28,7 @@ use Rattle.hash_rules.specs.Words.{TableFor}
 use Rattle.refused.specs.declared.Refusal.{Refusal}
 use Rattle.refused.specs.Numbers.{number_of, code_of}
 use Rattle.refused.specs.Passed.{passed}
-use Rattle.refused.proofs.Laws.{code_passed, passed_err}
+use Rattle.refused.proofs.Laws.{code_passed, passed_err, passed_ok}
 use Rattle.refusal.specs.Tests.{place_refusal}
 use Rattle.sound.specs.Told.{table_of, Begun, Told, Over}
 
@@ -102,6 +103,38 @@ module _ (s : Setting) (r : rules.Refusal) (st : State) where
   over_taken o u z e eo ok =
       let w = unless_taken r st o (ap refusal_number e) ∙ sym eo in
       record { code_is = rw w refl; finished_is = rw w refl; state_is = rw w refl; sound = ok }
+
+-- ---- a done where bank, thread and tick pass: only 10 is left
+
+number_left : (zero : Bool) (st : State) (o : Outcome) → return_code o.reply ≡ 0
+    → return_code (unless_refused (refuse zero none_in_flight none) st o).reply ≡ code_of (passed (refuse zero none_in_flight none))
+unfolding unless_refused
+number_left true st o e = refl
+number_left false st o e = e
+
+state_left : (zero : Bool) (st : State) (o : Outcome) → IsErr (passed (refuse zero none_in_flight none))
+    → (unless_refused (refuse zero none_in_flight none) st o).state ≡ st
+unfolding unless_refused
+state_left true st o e = refl
+state_left false st o e = absurd (true≢false (sym e))
+
+module _ (s : Setting) (seeds : List ℕ) (st : State) (tick bank thread : ℕ) (accepted : setting_refusal limits01 s seeds ≡ none) (ok : Sound s st)
+    (place : passed (place_refusal s st.head.last tick bank thread) ≡ Ok tt) where
+  abbrev flying : Result (Unit {0}) Refusal
+  flying = passed (refuse (slice_index st.threads (thread_cell s bank thread 2) == 0) none_in_flight none)
+
+  asked : call_refusal limits01 s seeds st tick bank thread ≡ none
+  asked = passed_ok _ tt (ap passed (place_only limits01 s seeds st accepted ok tick bank thread) ∙ place)
+
+  -- the number is that of the test of what is in flight
+  pub done_number : return_code (step narrow s seeds st (done tick bank thread)).reply ≡ code_of flying
+  unfolding step done_refusal reported
+  done_number = rw asked (number_left _ st (reported s (turned s st tick) bank thread) refl)
+
+  -- where that test refuses, the state stands
+  pub done_stands : IsErr flying → (step narrow s seeds st (done tick bank thread)).state ≡ st
+  unfolding step done_refusal
+  done_stands refused = rw asked (state_left _ st (reported s (turned s st tick) bank thread) refused)
 
 -- the state after a done, from its parts
 pub done_parts : (s : Setting) (st : State) (tick bank thread : ℕ) (h : Head) (counters threads : List ℕ)
