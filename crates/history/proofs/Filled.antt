@@ -40,7 +40,8 @@ pub filled_from : (start n : ℕ) (old new : List ℕ) → start ≡ 0 → n ≤
     → put_mid start (n - start) old new ≡ clear_cells (first n) old
 filled_from start n old new e = go start e
   where
-    go : (start : ℕ) → start ≡ 0 → n ≤ length old → new ≡ replicate (length (mid_of start (n - start) old)) 0 → put_mid start (n - start) old new ≡ clear_cells (first n) old
+    go : (start : ℕ) → start ≡ 0 → n ≤ length old → new ≡ replicate (length (mid_of start (n - start) old)) 0
+        → put_mid start (n - start) old new ≡ clear_cells (first n) old
     go zero e h is =
         let z : n - 0 ≡ n = omega arith in
         rw z (filled_first n old new h (rw z at is))

@@ -16,5 +16,6 @@ pub returns : goal.returns
 returns g c =
     let cs = map g.C.Counter.value c.args.counters.now in
     let told = c.setup-told.result in
+    let settled = c.setup-told.ensures.settled cs (length-map c.args.counters.now g.C.Counter.value) in
     rw (c.and.ensures, told_code told, c.clear.ensures)
-    (rw (c.width_limits.ensures, ← told_cleared told _ _ c.unwrap_or-used.ensures (omega arith) cs) at (c.setup-told.ensures.settled cs (length-map c.args.counters.now g.C.Counter.value)))
+    (rw (c.width_limits.ensures, ← told_cleared told _ _ c.unwrap_or-used.ensures (omega arith) cs) at settled)

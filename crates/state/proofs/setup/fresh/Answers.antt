@@ -1,7 +1,7 @@
 -- `fresh` clears the used parts, buffer by buffer.
 use mathlib.Core.Path.{refl}
 use native.Mathlib.Omega.{arith}
-use Rattle.rules.specs.State.{fresh_head, threads_used}
+use Rattle.rules.specs.State.{fresh_head}
 use Rattle.history.proofs.Filled.{filled_first, filled_from}
 use Rattle.state.proofs.setup.fresh.Goals as goal
 
