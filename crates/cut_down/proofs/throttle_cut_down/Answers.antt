@@ -7,4 +7,4 @@ pub returns-in-Err : goal.returns-in-Err
 returns-in-Err c =
     let h = c.in-Err.ensures c.args.out.now in
     let number = c.from.ensures ∙ h.0 in
-    (omega (arith, number), h.1)
+    (grind (arith, number), h.1)
